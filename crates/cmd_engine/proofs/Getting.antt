@@ -1,5 +1,5 @@
 -- How a call gets what it has in hand.
-use Rattle.std.proofs.Common.{◌≡◌, ◌<◌, ◌&&◌, ℕ, Bool, false, nat_lt, List, [], ◌∷◌, Option, Some, None, ap, sym, ◌∙◌, subst}
+use Rattle.std.proofs.Common.{◌≡◌, ◌<◌, ◌&&◌, ℕ, Bool, false, nat_lt, List, [], ◌∷◌, Option, Some, None, refl, ap, sym, ◌∙◌, subst}
 use Rattle.std.specs.Prelude.{Box, is_some}
 use Rattle.std.specs.Global.{Global}
 use Rattle.its_types.specs.declared.machine.Part.{Part}
@@ -7,11 +7,12 @@ use Rattle.its_types.specs.declared.machine.Part.TheVariants as part
 use Rattle.its_types.specs.declared.machine.Shape.{Shape}
 use Rattle.its_types.specs.declared.machine.Word.{Word}
 use Rattle.its_plain.specs.declared.layout.Layout.{Layout}
-use Rattle.lpi_config.specs.declared.conf.Conf.{Conf as ConfInHand}
-use Rattle.lpi_pending.specs.InHand.{RedistParts, HasLpisOfConf, HasLpisOfPend}
+use Rattle.lpi_config.specs.Conf.{Conf as ConfInHand}
+use Rattle.lpi_pending.specs.InHand.{RedistParts, AreEmpty, HasLpisOfConf, HasLpisOfPend}
 use Rattle.cmd_exec.specs.declared.needed.Needed.{Needed}
 use Rattle.owned_parts.specs.Owned.{translator_of}
 use Rattle.owned_parts.specs.RedistSets.{is_in}
+use Rattle.owned_parts.specs.declared.redist_set.RedistSet.{RedistSet}
 use Rattle.owned_parts.specs.declared.parts.Translator.{Translator as InHand}
 use Rattle.cmd_exec.specs.Needs.{AreTargets}
 use Rattle.its_steps.specs.Contents.{Content, Maps, Held}
@@ -20,19 +21,21 @@ use Rattle.its_steps.specs.Parts.{Setup, translator_count, vcpu_count, stamp_of}
 use Rattle.its_steps.specs.World.{View, out}
 use Rattle.its_turns.specs.Told.{HasStood, Looks}
 use Rattle.its_turns.specs.declared.value.GuestMemory.{GuestMemory}
-use Rattle.held_parts.specs.Redists.{confs_held, pends_held, AreNone, AreWanted, AreNoConfs, AreNoPends, AreConfsOfSet, ArePendsOfSet}
+use Rattle.held_parts.specs.Redists.{AreNone, AreWanted, AreNoConfs, AreNoPends, AreConfsOfSet, ArePendsOfSet}
 use Rattle.held_parts.specs.Redists.{HoldsNoConf, HoldsNoPend, IsConfIn, IsPendIn}
 use Rattle.held_parts.specs.Shards.{IsShardOf}
 use Rattle.held_parts.specs.Taking.{TakesInTime, TakesOnly, Goes}
 use Rattle.held_parts.proofs.Going.{takes_wider, takes_one, going_first, going_takes, going_looked, goes_wider}
 use Rattle.cmd_engine.specs.Cached.{cached_held, AreWhole}
-use Rattle.cmd_engine.specs.Hands.{memory_held, base_held, HasInHand, IsBase, IsOfTranslator, IsOfStep}
+use Rattle.cmd_engine.specs.Hands.{Memory, redists_of, with_redists, redists_held, memory_held, base_held}
+use Rattle.cmd_engine.specs.Hands.{HavePlaces, HasRoom, IsVacant, HasInHand, IsBase, IsOfTranslator, IsOfStep}
 use mathlib.Core.List.{IsPrefix}
 use Rattle.its_steps.proofs.Lists.{prefix_self}
 use Rattle.cmd_engine.specs.Telling.{ReadLow}
 use Rattle.cmd_engine.specs.declared.cached.Cached.{Cached}
+use Rattle.cmd_engine.specs.declared.cached.Cached.TheVariants as cached
 use Rattle.cmd_engine.specs.declared.hands.Hands.{Hands}
-use Rattle.cmd_engine.proofs.Held.{base_no_conf, base_no_pend, base_no_shard, cached_no_conf, cached_no_pend, confs_no_pend, none_held}
+use Rattle.cmd_engine.proofs.Held.{base_no_conf, base_no_pend, base_no_shard, cached_no_conf, cached_no_pend, none_held}
 
 -- ---- whose turns are got
 
@@ -50,14 +53,14 @@ own_of_step its part.Mem is = absurd is
 own_of_step its (part.Conf v) is = absurd is
 own_of_step its (part.Pend v) is = absurd is
 
-conf_of_step : (its set : ℕ) (p : Part) → IsConfIn set p → IsOfStep its p
+pub conf_of_step : (its : ℕ) (set : RedistSet) (p : Part) → IsConfIn set p → IsOfStep its p
 conf_of_step its set (part.Conf v) is = tt
 conf_of_step its set (part.Pend v) is = absurd is
 conf_of_step its set (part.Maps i) is = absurd is
 conf_of_step its set part.Mem is = absurd is
 conf_of_step its set (part.Shard i n) is = absurd is
 
-pend_of_step : (its set : ℕ) (p : Part) → IsPendIn set p → IsOfStep its p
+pub pend_of_step : (its : ℕ) (set : RedistSet) (p : Part) → IsPendIn set p → IsOfStep its p
 pend_of_step its set (part.Pend v) is = tt
 pend_of_step its set (part.Conf v) is = absurd is
 pend_of_step its set (part.Maps i) is = absurd is
@@ -72,21 +75,14 @@ goes_shards its v x y w looks takes = going_takes (IsOfTranslator its) v x y
     (going_looked (IsOfTranslator its) v v x w (going_first (IsOfTranslator its) v) looks)
     (takes_wider (IsShardOf its) (IsOfTranslator its) (shard_is_own its) x y takes)
 
--- first shards, then configurations, then what is pending
-pub goes_needed : (its : ℕ) (n : Needed) (v x y z : View) → Goes (IsOfTranslator its) v x → TakesOnly (IsConfIn n.confs) x y → TakesOnly (IsPendIn n.pends) y z
-    → Goes (IsOfStep its) v z
-goes_needed its n v x y z goes confs pends =
-    going_takes (IsOfStep its) v y z
-    (going_takes (IsOfStep its) v x y (goes_wider (IsOfTranslator its) (IsOfStep its) (own_of_step its) v x goes)
-    (takes_wider (IsConfIn n.confs) (IsOfStep its) (conf_of_step its n.confs) x y confs))
-    (takes_wider (IsPendIn n.pends) (IsOfStep its) (pend_of_step its n.pends) y z pends)
+-- first shards, then parts of redistributors
+pub goes_needed : (its : ℕ) (v x y : View) → Goes (IsOfTranslator its) v x → TakesOnly (IsOfStep its) x y → Goes (IsOfStep its) v y
+goes_needed its v x y goes takes =
+    going_takes (IsOfStep its) v x y (goes_wider (IsOfTranslator its) (IsOfStep its) (own_of_step its) v x goes) takes
 
 -- ---- what is in hand
 
-abbrev Memory : Type 0
-Memory = Option (Box GuestMemory Global)
-
-no_set : {T : Type 0} (has_lpis : T → Type 0) (s : Setup) (set : ℕ) (places : List (Option T)) → ((v : ℕ) → is_in set v ≡ false) → AreNone places
+no_set : {T : Type 0} (has_lpis : T → Type 0) (s : Setup) (set : RedistSet) (places : List (Option T)) → ((v : ℕ) → is_in set v ≡ false) → AreNone places
     → AreWanted T has_lpis s set places
 no_set {T} has_lpis s set places none lack = record {
   hand = λ v. ap (λ (o : Option T). is_some o) (lack v) ∙ sym (ap (λ (b : Bool). b && nat_lt v (vcpu_count s)) (none v));
@@ -96,29 +92,56 @@ no_set {T} has_lpis s set places none lack = record {
     no_some : (x : T) → None ≡ Some x → ⊥
     no_some x e = cc
 
+-- the places of memory are empty
+vacant_confs : (s : Setup) (m : Memory) → IsVacant s m → AreNoConfs (redists_of m)
+vacant_confs s None vacant = λ v. refl
+vacant_confs s (Some b) vacant = vacant.confs
+
+vacant_pends : (s : Setup) (m : Memory) → IsVacant s m → AreNoPends (redists_of m)
+vacant_pends s None vacant = λ v. refl
+vacant_pends s (Some b) vacant = vacant.pends
+
+vacant_room : (s : Setup) (m : Memory) → IsVacant s m → HasRoom s m
+vacant_room s None vacant = tt
+vacant_room s (Some b) vacant = (vacant.conf_room, vacant.pend_room)
+
+-- so with memory alone nothing of a redistributor is in hand
+pub base_of : (s : Setup) (h : Hands) (b : Box GuestMemory Global) → h.memory ≡ Some b → h.cached ≡ cached.Nothing → AreEmpty (vcpu_count s) b.value.redists
+    → IsBase h
+base_of s h b is no_shard empty =
+    let here : IsVacant s h.memory = subst (IsVacant s) (sym is) empty in
+    record {
+      memory = ap (λ (m : Memory). is_some m) is;
+      bare = record { cached_is = no_shard; confs = vacant_confs s h.memory here; pends = vacant_pends s h.memory here };
+    }
+
 -- the translator's maps, maybe memory, and some of its shards
 pub own_in_hand : (s : Setup) (x : View) (h : Hands) (its : ℕ) (t : Box InHand Global) (m : Memory) (c : Cached) → h.its ≡ its → h.translator ≡ t
-    → h.memory ≡ m
-    → h.cached ≡ c → AreNoConfs h.redists → AreNoPends h.redists → ((v : ℕ) → is_in h.needed.confs v ≡ false) → ((v : ℕ) → is_in h.needed.pends v ≡ false)
+    → h.memory ≡ m → h.cached ≡ c → IsVacant s m → ((v : ℕ) → is_in h.needed.confs v ≡ false) → ((v : ℕ) → is_in h.needed.pends v ≡ false)
     → its < translator_count s → AreWhole s its c
     → x.held ≡ cached_held its s.shards c (memory_held m (out (part.Maps its) (Maps (translator_of t.value)) ∷ [])) → HasInHand s x h
-own_in_hand s x h its t m c its_is t_is m_is c_is no_confs no_pends no_conf no_pend lt whole held = record {
+own_in_hand s x h its t m c its_is t_is m_is c_is vacant no_conf no_pend lt whole held = record {
   held = held
       ∙ ((λ d. cached_held (sym its_is d) s.shards (sym c_is d) (memory_held (sym m_is d)
       (out (part.Maps (sym its_is d)) (Maps (translator_of (sym t_is d).value)) ∷ [])))
-      ∙ sym (none_held h.redists (cached_held h.its s.shards h.cached (base_held h)) no_confs no_pends));
+      ∙ sym (none_held (vcpu_count s) (redists_of h.memory) (cached_held h.its s.shards h.cached (base_held h)) (vacant_confs s h.memory here)
+      (vacant_pends s h.memory here)));
   its = subst (λ (n : ℕ). n < translator_count s) (sym its_is) lt;
   whole = subst (λ (p : ℕ × Cached). AreWhole s p.0 p.1) (λ d. (sym its_is d, sym c_is d)) whole;
-  confs = no_set (HasLpisOfConf s.start.layout.shape) s h.needed.confs h.redists.confs no_conf no_confs;
-  pends = no_set (HasLpisOfPend s.start.layout.shape) s h.needed.pends h.redists.pends no_pend no_pends;
+  confs = no_set (HasLpisOfConf s.start.layout.shape) s h.needed.confs (redists_of h.memory).confs no_conf (vacant_confs s h.memory here);
+  pends = no_set (HasLpisOfPend s.start.layout.shape) s h.needed.pends (redists_of h.memory).pends no_pend (vacant_pends s h.memory here);
+  room = vacant_room s h.memory here;
 }
+  where
+    here : IsVacant s h.memory
+    here = subst (IsVacant s) (sym m_is) vacant
 
 -- ---- what a command needs is taken
 
 module _ (s : Setup) (v : View) (h : Hands) (has : HasInHand s v h) (base : IsBase h) where
   -- only maps and memory are held
   pub base_only : v.held ≡ base_held h
-  base_only = has.held ∙ (none_held h.redists (cached_held h.its s.shards h.cached (base_held h)) base.bare.confs base.bare.pends
+  base_only = has.held ∙ (none_held (vcpu_count s) (redists_of h.memory) (cached_held h.its s.shards h.cached (base_held h)) base.bare.confs base.bare.pends
       ∙ ap (λ (c : Cached). cached_held h.its s.shards c (base_held h)) base.bare.cached_is)
 
   pub base_free : (number : ℕ) → Holds (part.Shard h.its number) v.held → ⊥
@@ -130,27 +153,41 @@ module _ (s : Setup) (v : View) (h : Hands) (has : HasInHand s v h) (base : IsBa
   confs_free x c held = subst HoldsNoConf (sym (held ∙ ap (cached_held h.its s.shards c) base_only))
       (cached_no_conf h.its s.shards c (base_held h) (base_no_conf h.its (translator_of h.translator.value) h.memory))
 
-  pub pends_free : (x y : View) (c : Cached) (redists : RedistParts) → x.held ≡ cached_held h.its s.shards c v.held → y.held ≡ confs_held redists 16 x.held
-      → HoldsNoPend y.held
-  pends_free x y c redists held more = subst HoldsNoPend (sym (more ∙ ap (confs_held redists 16) (held ∙ ap (cached_held h.its s.shards c) base_only)))
-      (confs_no_pend redists (cached_held h.its s.shards c (base_held h))
-      (cached_no_pend h.its s.shards c (base_held h) (base_no_pend h.its (translator_of h.translator.value) h.memory)))
+  pub pends_free : (x : View) (c : Cached) → x.held ≡ cached_held h.its s.shards c v.held → HoldsNoPend x.held
+  pends_free x c held = subst HoldsNoPend (sym (held ∙ ap (cached_held h.its s.shards c) base_only))
+      (cached_no_pend h.its s.shards c (base_held h) (base_no_pend h.its (translator_of h.translator.value) h.memory))
 
-  -- what is pending has no place among configurations
-  confs_stay : (some all : RedistParts) (others : List Held) → all.confs ≡ some.confs → confs_held some 16 others ≡ confs_held all 16 others
-  confs_stay some all others same = ap (λ (cs : List (Option ConfInHand)). confs_held (record all { confs = cs }) 16 others) (sym same)
+  -- the places of memory before anything is taken
+  module _ (b : Box GuestMemory Global) (mem : h.memory ≡ Some b) where
+    pub base_confs : AreNoConfs b.value.redists
+    base_confs = subst (λ (m : Memory). AreNoConfs (redists_of m)) mem base.bare.confs
 
-  pub needed_in_hand : (x y z : View) (c : Cached) (n : Needed) (some all : RedistParts) → x.held ≡ cached_held h.its s.shards c v.held → AreWhole s h.its c
-      → y.held ≡ confs_held some 16 x.held → AreConfsOfSet s n.confs some → z.held ≡ pends_held all 16 y.held → ArePendsOfSet s n.pends all
-      → all.confs ≡ some.confs → HasInHand s z (record h { cached = c; needed = n; redists = all })
-  needed_in_hand x y z c n some all held whole read confs more pends same = record {
-    held = more ∙ ap (pends_held all 16) (read ∙ confs_stay some all x.held same
-        ∙ ap (confs_held all 16) (held ∙ ap (cached_held h.its s.shards c) base_only));
-    its = has.its;
-    whole = whole;
-    confs = subst (λ (cs : List (Option ConfInHand)). AreWanted ConfInHand (HasLpisOfConf s.start.layout.shape) s n.confs cs) (sym same) confs;
-    pends = pends;
-  }
+    pub base_pends : AreNoPends b.value.redists
+    base_pends = subst (λ (m : Memory). AreNoPends (redists_of m)) mem base.bare.pends
+
+    pub base_room : HavePlaces s b.value.redists
+    base_room = subst (HasRoom s) mem has.room
+
+  -- what stands in the places of memory isn't told of it
+  same_held : (m : Memory) (redists : RedistParts) (others : List Held) → memory_held (with_redists m redists) others ≡ memory_held m others
+  same_held None redists others = refl
+  same_held (Some b) redists others = refl
+
+  pub needed_in_hand : (x z : View) (c : Cached) (n : Needed) (m : Memory) → x.held ≡ cached_held h.its s.shards c v.held → AreWhole s h.its c
+      → z.held ≡ redists_held (vcpu_count s) (redists_of m) x.held → m ≡ with_redists h.memory (redists_of m)
+      → AreConfsOfSet s n.confs (redists_of m) → ArePendsOfSet s n.pends (redists_of m) → HasRoom s m
+      → HasInHand s z (record h { cached = c; needed = n; memory = m })
+  needed_in_hand x z c n m held whole more same confs pends room =
+      let maps : List Held = out (part.Maps h.its) (Maps (translator_of h.translator.value)) ∷ [] in
+      let base_now = ap (λ (k : Memory). memory_held k maps) same ∙ same_held h.memory (redists_of m) maps in
+      record {
+        held = more ∙ ap (redists_held (vcpu_count s) (redists_of m)) (held ∙ ap (cached_held h.its s.shards c) (base_only ∙ sym base_now));
+        its = has.its;
+        whole = whole;
+        confs = confs;
+        pends = pends;
+        room = room;
+      }
 
 -- the maps taken send collections to virtual processors that there are
 pub targets_of : (s : Setup) (its : ℕ) (t : InHand) (shape : Shape) → HasStood s (part.Maps its) (Maps (translator_of t)) → shape ≡ s.start.layout.shape

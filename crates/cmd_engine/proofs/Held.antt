@@ -7,11 +7,12 @@ use Rattle.its_types.specs.declared.machine.Part.{Part}
 use Rattle.its_types.specs.declared.machine.Part.TheVariants as part
 use Rattle.its_plain.specs.Plain.{Translator}
 use Rattle.its_plain.specs.Parts.{conf, pend}
-use Rattle.lpi_config.specs.declared.conf.Conf.{Conf as ConfInHand}
-use Rattle.lpi_pending.specs.InHand.{RedistParts, HasLpisOfConf, HasLpisOfPend}
-use Rattle.lpi_pending.specs.declared.pend.Pend.{Pend as PendInHand}
+use Rattle.lpi_config.specs.Conf.{Conf as ConfInHand}
+use Rattle.lpi_pending.specs.InHand.{RedistParts, no_redists, HasLpisOfConf, HasLpisOfPend}
+use Rattle.lpi_pending.specs.Pend.{Pend as PendInHand}
 use Rattle.owned_parts.specs.Owned.{translator_of}
 use Rattle.owned_parts.specs.RedistSets.{is_in}
+use Rattle.owned_parts.specs.declared.redist_set.RedistSet.{RedistSet}
 use Rattle.xlate_cache.specs.Pairs.{shard_number}
 use Rattle.its_steps.specs.Contents.{Content, Maps, Mem, Held}
 use Rattle.its_steps.specs.Good.{Holds}
@@ -28,14 +29,11 @@ use Rattle.held_parts.proofs.InRows.{row_short, row_none}
 use Rattle.held_parts.proofs.RedistRows.{conf_kind, pend_kind, parts_hold, parts_owe, part_owed, parts_lack, parts_out, parts_apart, parts_stand}
 use Rattle.held_parts.proofs.ShardRows.{shards_owe, shards_lack, shards_out, shards_apart, shards_stand}
 use Rattle.cmd_engine.specs.Cached.{cached_held, AreWhole}
-use Rattle.cmd_engine.specs.Hands.{memory_held, base_held, redists_held, all_held, HasInHand}
+use Rattle.cmd_engine.specs.Hands.{Memory, redists_of, memory_held, base_held, redists_held, all_held, HasInHand}
 use Rattle.cmd_engine.specs.declared.cached.Cached.{Cached}
 use Rattle.cmd_engine.specs.declared.cached.Cached.TheVariants as cached
 use Rattle.cmd_engine.specs.declared.hands.Hands.{Hands}
 use Rattle.cmd_engine.proofs.InState.{AreOut, HoldsBase, HoldsRedists}
-
-abbrev Memory : Type 0
-Memory = Option (Box GuestMemory Global)
 
 -- ---- the maps, and memory
 
@@ -121,25 +119,31 @@ cached_out s its (cached.Every shards) others whole lacks o = record {
 -- ---- parts of redistributors
 
 module _ {T : Type 0} (as_held : ℕ → T → Held) (places : List (Option T)) where
-  none_in : (others : List Held) → AreNone places → in_row (row_of as_held places) 16 others ≡ others
-  none_in others none = row_short (row_of as_held places) others 0 16 (λ k le. ap (held_if_in as_held k) (none k)) ∙ row_none (row_of as_held places) others 0 refl
+  none_in : (n : ℕ) (others : List Held) → AreNone places → in_row (row_of as_held places) n others ≡ others
+  none_in n others none = row_short (row_of as_held places) others 0 n (omega arith) (λ k le lt. ap (held_if_in as_held k) (none k))
+      ∙ row_none (row_of as_held places) others 0 refl
 
   some_is : (x : T) (o : Option T) → o ≡ Some x → is_some o ≡ true
   some_is x o is = ap (λ (y : Option T). is_some y) is
 
-  pub few : (has_lpis : T → Type 0) (s : Setup) (set : ℕ) → AreWanted T has_lpis s set places → (k : ℕ) (x : T) → at_place places k ≡ Some x → k < 16
-  few has_lpis s set are k x is =
-      let both = and_parts (is_in set k) (nat_lt k (vcpu_count s)) (sym (are.hand k) ∙ some_is x (at_place places k) is) in
-      ltb-true k 16 (and_parts (nat_lt k 16) _ both.0).0
+  -- the machine has those in hand
+  pub is_of : (has_lpis : T → Type 0) (s : Setup) (set : RedistSet) → AreWanted T has_lpis s set places → (k : ℕ) (x : T) → at_place places k ≡ Some x
+      → k < vcpu_count s
+  is_of has_lpis s set are k x is =
+      ltb-true k (vcpu_count s) (and_parts (is_in set k) (nat_lt k (vcpu_count s)) (sym (are.hand k) ∙ some_is x (at_place places k) is)).1
 
 -- none
-pub none_held : (redists : RedistParts) (others : List Held) → AreNoConfs redists → AreNoPends redists → redists_held redists others ≡ others
-none_held redists others no_confs no_pends =
-    none_in pend_held redists.pends (confs_held redists 16 others) no_pends ∙ none_in conf_held redists.confs others no_confs
+pub none_held : (n : ℕ) (redists : RedistParts) (others : List Held) → AreNoConfs redists → AreNoPends redists → redists_held n redists others ≡ others
+none_held n redists others no_confs no_pends =
+    none_in pend_held redists.pends n (confs_held redists n others) no_pends ∙ none_in conf_held redists.confs n others no_confs
+
+-- nor is any without memory
+pub bare_held : (n : ℕ) (m : Memory) → m ≡ None → (others : List Held) → redists_held n (redists_of m) others ≡ others
+bare_held n m none others = ap (λ (o : Memory). redists_held n (redists_of o) others) none ∙ none_held n (no_redists 0) others (λ k. refl) (λ k. refl)
 
 -- what is pending is not held before it is taken
-pub confs_no_pend : (redists : RedistParts) (others : List Held) → HoldsNoPend others → HoldsNoPend (confs_held redists 16 others)
-confs_no_pend redists others lacks v = parts_lack conf_held conf conf_kind redists.confs others 16 (part.Pend v) (λ k e. cc) (lacks v)
+pub confs_no_pend : (n : ℕ) (redists : RedistParts) (others : List Held) → HoldsNoPend others → HoldsNoPend (confs_held redists n others)
+confs_no_pend n redists others lacks v = parts_lack conf_held conf conf_kind redists.confs others n (part.Pend v) (λ k e. cc) (lacks v)
 
 -- ---- all of it
 
@@ -147,44 +151,50 @@ module _ (s : Setup) (v : View) (h : Hands) (has : HasInHand s v h) where
   abbrev t : Translator
   t = translator_of h.translator.value
 
+  abbrev n : ℕ
+  n = vcpu_count s
+
+  abbrev rs : RedistParts
+  rs = redists_of h.memory
+
   abbrev cs : List (Option ConfInHand)
-  cs = h.redists.confs
+  cs = rs.confs
 
   abbrev ps : List (Option PendInHand)
-  ps = h.redists.pends
+  ps = rs.pends
 
   abbrev rest : List Held
   rest = cached_held h.its s.shards h.cached (base_held h)
 
   -- without what is pending
   abbrev read : List Held
-  read = confs_held h.redists 16 rest
+  read = confs_held rs n rest
 
   no_conf : HoldsNoConf rest
   no_conf = cached_no_conf h.its s.shards h.cached (base_held h) (base_no_conf h.its t h.memory)
 
   no_pend : HoldsNoPend read
-  no_pend = confs_no_pend h.redists rest (cached_no_pend h.its s.shards h.cached (base_held h) (base_no_pend h.its t h.memory))
+  no_pend = confs_no_pend n rs rest (cached_no_pend h.its s.shards h.cached (base_held h) (base_no_pend h.its t h.memory))
 
   rest_out : AreOut s rest
   rest_out = cached_out s h.its h.cached (base_held h) has.whole (base_no_shard h.its h.its t h.memory) (base_out s h.its t h.memory has.its)
 
   read_out : AreOut s read
   read_out = record {
-    stands = parts_stand conf_held conf conf_kind cs rest (HasLpisOfConf s.start.layout.shape) s h.needed.confs 16 has.confs rest_out.stands;
-    apart = parts_apart conf_held conf conf_kind cs rest 16 (λ k. no_conf (record { 0 = k })) rest_out.apart;
-    out = parts_out conf_held conf conf_kind cs rest 16 rest_out.out;
+    stands = parts_stand conf_held conf conf_kind cs rest (HasLpisOfConf s.start.layout.shape) s h.needed.confs n has.confs rest_out.stands;
+    apart = parts_apart conf_held conf conf_kind cs rest n (λ k. no_conf (record { 0 = k })) rest_out.apart;
+    out = parts_out conf_held conf conf_kind cs rest n rest_out.out;
   }
 
   pub all_out : AreOut s (all_held s h)
   all_out = record {
-    stands = parts_stand pend_held pend pend_kind ps read (HasLpisOfPend s.start.layout.shape) s h.needed.pends 16 has.pends read_out.stands;
-    apart = parts_apart pend_held pend pend_kind ps read 16 (λ k. no_pend (record { 0 = k })) read_out.apart;
-    out = parts_out pend_held pend pend_kind ps read 16 read_out.out;
+    stands = parts_stand pend_held pend pend_kind ps read (HasLpisOfPend s.start.layout.shape) s h.needed.pends n has.pends read_out.stands;
+    apart = parts_apart pend_held pend pend_kind ps read n (λ k. no_pend (record { 0 = k })) read_out.apart;
+    out = parts_out pend_held pend pend_kind ps read n read_out.out;
   }
 
   all_owe : (p : Part) (x : Content) → Owes p x rest → Owes p x (all_held s h)
-  all_owe p x o = parts_owe pend_held pend pend_kind ps read 16 p x (parts_owe conf_held conf conf_kind cs rest 16 p x o)
+  all_owe p x o = parts_owe pend_held pend pend_kind ps read n p x (parts_owe conf_held conf conf_kind cs rest n p x o)
 
   pub owes_maps : Owes (part.Maps h.its) (Maps t) (all_held s h)
   owes_maps = all_owe (part.Maps h.its) (Maps t) (cached_owes h.its s.shards h.cached (base_held h) (part.Maps h.its) (Maps t) (base_maps h.its t h.memory))
@@ -203,25 +213,25 @@ module _ (s : Setup) (v : View) (h : Hands) (has : HasInHand s v h) where
         (Mem b.value.memory b.value.track) (mem_in h.memory b is));
   }
 
-  pub holds_redists : HoldsRedists s h.redists (all_held s h)
+  pub holds_redists : HoldsRedists s rs (all_held s h)
   holds_redists = record {
     confs = λ vcpu c is. (
       has.confs.lpis vcpu.0 c is,
-      parts_owe pend_held pend pend_kind ps read 16 (conf vcpu.0) (conf_held vcpu.0 c).owed
-          (part_owed conf_held conf conf_kind cs rest 16 vcpu.0 c
-          (few conf_held cs (HasLpisOfConf s.start.layout.shape) s h.needed.confs has.confs vcpu.0 c is) is),
+      parts_owe pend_held pend pend_kind ps read n (conf vcpu.0) (conf_held vcpu.0 c).owed
+          (part_owed conf_held conf conf_kind cs rest n vcpu.0 c
+          (is_of conf_held cs (HasLpisOfConf s.start.layout.shape) s h.needed.confs has.confs vcpu.0 c is) is),
     );
     pends = λ vcpu p is. (
       has.pends.lpis vcpu.0 p is,
-      part_owed pend_held pend pend_kind ps read 16 vcpu.0 p
-          (few pend_held ps (HasLpisOfPend s.start.layout.shape) s h.needed.pends has.pends vcpu.0 p is) is,
+      part_owed pend_held pend pend_kind ps read n vcpu.0 p
+          (is_of pend_held ps (HasLpisOfPend s.start.layout.shape) s h.needed.pends has.pends vcpu.0 p is) is,
     );
   }
 
   -- what configurations and all else hold, all of it holds
   pub holds_read : (p : Part) → Holds p read → Holds p (all_held s h)
-  holds_read p held = parts_hold pend_held pend pend_kind ps read 16 p held
+  holds_read p held = parts_hold pend_held pend pend_kind ps read n p held
 
   -- so it does what its shards hold
   pub holds_cached : (p : Part) → Holds p rest → Holds p (all_held s h)
-  holds_cached p held = holds_read p (parts_hold conf_held conf conf_kind cs rest 16 p held)
+  holds_cached p held = holds_read p (parts_hold conf_held conf conf_kind cs rest n p held)

@@ -25,9 +25,9 @@ use Rattle.its_plain.specs.declared.call.Reply.TheVariants as reply
 use Rattle.its_plain.specs.declared.call.StepReply.{StepReply}
 use Rattle.its_plain.specs.declared.call.StepReply.TheVariants.{Idle, Ran, Refused, QueueFault}
 use Rattle.lpi_config.specs.Conf.{conf_state}
-use Rattle.lpi_config.specs.declared.conf.Conf.{Conf as ConfInHand}
+use Rattle.lpi_config.specs.Conf.{Conf as ConfInHand}
 use Rattle.lpi_pending.specs.InHand.{RedistParts, conf_in, pend_in, pend_state, HasLpisOfConf, HasLpisOfPend}
-use Rattle.lpi_pending.specs.declared.pend.Pend.{Pend as PendInHand}
+use Rattle.lpi_pending.specs.Pend.{Pend as PendInHand}
 use Rattle.owned_parts.specs.Owned.{ArePartsOf, ArePartsOfSound}
 use Rattle.cmd_exec.specs.Executed.{as_step, IsReplyTo, left_by, AreLeftBy}
 use Rattle.cmd_exec.specs.Needs.{IsPartOf, ArePartsOfStep}

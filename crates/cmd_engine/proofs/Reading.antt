@@ -26,7 +26,7 @@ use Rattle.cmd_engine.specs.declared.hands.Hands.{Hands}
 
 -- it is in hand still
 pub still_in_hand : (s : Setup) (v w : View) (h : Hands) → HasInHand s v h → w.held ≡ v.held → HasInHand s w h
-still_in_hand s v w h has same = record { held = same ∙ has.held; its = has.its; whole = has.whole; confs = has.confs; pends = has.pends }
+still_in_hand s v w h has same = record { held = same ∙ has.held; its = has.its; whole = has.whole; confs = has.confs; pends = has.pends; room = has.room }
 
 -- what is owed after a commit
 pub owed_after : (s : Setup) (x z : View) (a : Commit) (held : List Held) → x.setup ≡ s → x.held ≡ held → Commits x a z → z.held ≡ renewal s a held

@@ -101,4 +101,5 @@ module _ (s : Setup) (stamps : HasStamps s) (v : View) (h : Hands) (has : HasInH
     whole = has.whole;
     confs = has.confs;
     pends = has.pends;
+    room = has.room;
   }

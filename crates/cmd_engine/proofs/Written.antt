@@ -1,8 +1,7 @@
 -- A write of a register of a translator, with its maps and the shards that it may change in hand.
-use Rattle.std.proofs.Common.{◌≡◌, ◌<◌, ℕ, List, [], ◌∷◌, Option, Some, length, refl, ap, sym, ◌∙◌, subst, arith, get_or-set_same, if◌then◌else◌}
+use Rattle.std.proofs.Common.{◌≡◌, ◌<◌, ℕ, List, [], ◌∷◌, Some, length, refl, ap, sym, ◌∙◌, subst, arith, get_or-set_same, if◌then◌else◌}
 use Rattle.std.specs.List.{AllByRecursion}
-use Rattle.std.specs.Prelude.{slice_get, Box}
-use Rattle.std.specs.Global.{Global}
+use Rattle.std.specs.Prelude.{slice_get}
 use Rattle.std.proofs.lemmas.Option.{get_or_from_slice_get}
 use Rattle.its_types.specs.declared.machine.Part.TheVariants as part
 use Rattle.its_types.specs.declared.machine.Shape.{Shape}
@@ -19,7 +18,7 @@ use Rattle.its_steps.specs.Contents.{Maps, Held}
 use Rattle.its_steps.specs.Endings.{Ending, Nothing, All, ending_of}
 use Rattle.its_steps.specs.MayCall.{MayCall}
 use Rattle.its_steps.specs.MayCommit.{IsRight}
-use Rattle.its_steps.specs.Parts.{Setup, HasStamps, IsOfMachine, Right, translator_count}
+use Rattle.its_steps.specs.Parts.{Setup, HasStamps, IsOfMachine, Right, translator_count, vcpu_count}
 use Rattle.its_steps.specs.Renewal.{renewed}
 use Rattle.its_steps.specs.States.{IsReady, MayLeaveIn}
 use Rattle.its_steps.specs.World.{View, out, word_after}
@@ -28,17 +27,15 @@ use Rattle.its_steps.proofs.Assembled.{right_had}
 use Rattle.its_steps.proofs.Owed.{owes_all}
 use Rattle.its_turns.specs.Machines.{AreWithin}
 use Rattle.its_turns.specs.Told.{Looks, Commits}
-use Rattle.its_turns.specs.declared.value.GuestMemory.{GuestMemory}
-use Rattle.lpi_pending.specs.InHand.{RedistParts}
 use Rattle.cmd_exec.specs.declared.needed.Needed.{Needed}
 use Rattle.held_parts.specs.Redists.{AreConfsOfSet, ArePendsOfSet}
 use Rattle.cmd_engine.specs.Cached.{ending_as, cached_held, AreWhole, commit_of, LeavesBy, MayMark, AreChanged}
-use Rattle.cmd_engine.specs.Hands.{memory_held, base_held, all_held, HasInHand, IsOwn, redists_held}
+use Rattle.cmd_engine.specs.Hands.{Memory, redists_of, memory_held, base_held, all_held, HasRoom, HasInHand, IsOwn}
 use Rattle.cmd_engine.specs.Registers.{write_call, after_write, turns_off, write_ending}
 use Rattle.cmd_engine.specs.declared.cached.Mark.{Mark}
 use Rattle.cmd_engine.specs.declared.hands.Hands.{Hands}
 use Rattle.cmd_engine.specs.declared.writing.RegWrite.{RegWrite}
-use Rattle.cmd_engine.proofs.Held.{all_out, owes_maps, holds_maps, holds_cached, none_held}
+use Rattle.cmd_engine.proofs.Held.{all_out, owes_maps, holds_maps, holds_cached, bare_held}
 use Rattle.cmd_engine.proofs.InState.{AreOut}
 use Rattle.cmd_engine.proofs.Marks.{HoldsShards, marked_may, within_after, holds_shards, Makes, mark_makes}
 use Rattle.cmd_engine.proofs.Reading.{state_machine, state_right, read_held, read_setup, read_within, owed_after}
@@ -126,8 +123,8 @@ module _ (s : Setup) (stamps : HasStamps s) (v : View) (h : Hands) (has : HasInH
     write_may = subst (MayCall s a) (sym (read_held s v x w held own has.held looks)) may_leave.0
 
     -- written
-    module _ (shape : Shape) (same : shape ≡ s.start.layout.shape) (h' : Hands) (its_is : h'.its ≡ its) (mem' : h'.memory ≡ h.memory) (needed' : h'.needed ≡ h.needed)
-        (redists' : h'.redists ≡ h.redists) (wrote : translator_of h'.translator.value ≡ after_write shape r t)
+    module _ (shape : Shape) (same : shape ≡ s.start.layout.shape) (h' : Hands) (its_is : h'.its ≡ its) (mem' : h'.memory ≡ h.memory)
+        (needed' : h'.needed ≡ h.needed) (wrote : translator_of h'.translator.value ≡ after_write shape r t)
         (changes : AreChanged mark.change h.cached h'.cached) where
       abbrev z : Plain
       z = left u c reply.Ok
@@ -138,9 +135,9 @@ module _ (s : Setup) (stamps : HasStamps s) (v : View) (h : Hands) (has : HasInH
 
       bases : renewed s a z (base_held h) ≡ base_held h'
       bases =
-          ap (λ (o : Option (Box GuestMemory Global)). renewed s a z (memory_held o (out (part.Maps its) (Maps t) ∷ []))) alone.memory
+          ap (λ (o : Memory). renewed s a z (memory_held o (out (part.Maps its) (Maps t) ∷ []))) alone
           ∙ ((λ d. out (part.Maps its) (Maps (new d)) ∷ [])
-          ∙ (λ d. memory_held (sym (mem' ∙ alone.memory) d) (out (part.Maps (sym its_is d)) (Maps (translator_of h'.translator.value)) ∷ [])))
+          ∙ (λ d. memory_held (sym (mem' ∙ alone) d) (out (part.Maps (sym its_is d)) (Maps (translator_of h'.translator.value)) ∷ [])))
 
       makes : Makes s w c reply.Ok z its refl (base_held h) mark h.cached h'.cached
       makes = mark_makes s w c reply.Ok z its refl (base_held h) h.cached h'.cached mark may.leaves may.every changes
@@ -152,13 +149,13 @@ module _ (s : Setup) (stamps : HasStamps s) (v : View) (h : Hands) (has : HasInH
       in_hand_written y commits = record {
         held = owed_after s x y a held (read_setup s v x w held own has.held looks) (read_held s v x w held own has.held looks) commits
             ∙ (may_leave.1
-            ∙ (ap (renewed s a z) (none_held h.redists rest alone.confs alone.pends)
+            ∙ (ap (renewed s a z) (bare_held (vcpu_count s) h.memory alone rest)
             ∙ (makes.renews
             ∙ ((λ d. cached_held (sym its_is d) s.shards h'.cached (bases d))
-            ∙ (sym (none_held h.redists (cached_held h'.its s.shards h'.cached (base_held h')) alone.confs alone.pends)
-            ∙ ap (λ l. redists_held l (cached_held h'.its s.shards h'.cached (base_held h'))) (sym redists'))))));
+            ∙ sym (bare_held (vcpu_count s) h'.memory (mem' ∙ alone) (cached_held h'.its s.shards h'.cached (base_held h')))))));
         its = subst (λ (n : ℕ). n < translator_count s) (sym its_is) has.its;
         whole = subst (λ (n : ℕ). AreWhole s n h'.cached) (sym its_is) (makes.whole has.whole);
-        confs = subst (λ (q : Needed × RedistParts). AreConfsOfSet s q.0.confs q.1) (λ d. (sym needed' d, sym redists' d)) has.confs;
-        pends = subst (λ (q : Needed × RedistParts). ArePendsOfSet s q.0.pends q.1) (λ d. (sym needed' d, sym redists' d)) has.pends;
+        confs = subst (λ (q : Needed × Memory). AreConfsOfSet s q.0.confs (redists_of q.1)) (λ d. (sym needed' d, sym mem' d)) has.confs;
+        pends = subst (λ (q : Needed × Memory). ArePendsOfSet s q.0.pends (redists_of q.1)) (λ d. (sym needed' d, sym mem' d)) has.pends;
+        room = subst (HasRoom s) (sym mem') has.room;
       }

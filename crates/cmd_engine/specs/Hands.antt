@@ -1,12 +1,12 @@
 -- What a call has in hand, as parts held.
-use Rattle.std.specs.Prelude.{◌≡◌, ◌<◌, ℕ, true, List, [], ◌∷◌, Option, Some, None, is_some, Box}
+use Rattle.std.specs.Prelude.{◌≡◌, ◌<◌, ℕ, true, List, [], ◌∷◌, length, Option, Some, None, is_some, Box}
 use Rattle.std.specs.Global.{Global}
 use Rattle.guest_windows.specs.Windows.{Window}
 use Rattle.its_command.specs.declared.command.Command.{Command}
 use Rattle.its_types.specs.declared.machine.Part.{Part}
 use Rattle.its_types.specs.declared.machine.Part.TheVariants as part
 use Rattle.cmd_exec.specs.Needs.{needs_conf, needs_pend, ArePartsOfStep}
-use Rattle.lpi_pending.specs.InHand.{RedistParts}
+use Rattle.lpi_pending.specs.InHand.{RedistParts, AreEmpty, no_redists}
 use Rattle.owned_parts.specs.Owned.{translator_of}
 use Rattle.owned_parts.specs.RedistSets.{is_in}
 use Rattle.its_steps.specs.Contents.{Maps, Mem, Held}
@@ -18,34 +18,64 @@ use Rattle.cmd_engine.specs.Cached.{cached_held, AreWhole}
 use Rattle.cmd_engine.specs.declared.cached.Cached.TheVariants as cached
 use Rattle.cmd_engine.specs.declared.hands.Hands.{Hands}
 
+-- ---- memory, and the parts of redistributors in its places
+
+abbrev pub Memory : Type 0
+Memory = Option (Box GuestMemory Global)
+
+-- the parts that are in its places; without memory there are no places
+abbrev pub redists_of : Memory → RedistParts
+redists_of None = no_redists 0
+redists_of (Some b) = b.value.redists
+
+-- memory as it is but for what its places hold: windows and track stay
+abbrev pub with_redists : Memory → RedistParts → Memory
+with_redists None redists = None
+with_redists (Some b) redists = Some (record b { value = record b.value { redists = redists } })
+
+-- there are places for each virtual processor
+abbrev pub HavePlaces : Setup → RedistParts → Type 0
+HavePlaces s redists = (length redists.confs ≡ vcpu_count s) × (length redists.pends ≡ vcpu_count s)
+
+-- memory has them, if it is in hand
+abbrev pub HasRoom : Setup → Memory → Type 0
+HasRoom s None = Unit {0}
+HasRoom s (Some b) = HavePlaces s b.value.redists
+
+-- and all of them are empty
+abbrev pub IsVacant : Setup → Memory → Type 0
+IsVacant s None = Unit {0}
+IsVacant s (Some b) = AreEmpty (vcpu_count s) b.value.redists
+
 -- ---- as it is held
 
 -- guest memory before other parts, if it is in hand
-abbrev pub memory_held : Option (Box GuestMemory Global) → List Held → List Held
+abbrev pub memory_held : Memory → List Held → List Held
 memory_held None others = others
 memory_held (Some b) others = out part.Mem (Mem b.value.memory b.value.track) ∷ others
 
 abbrev pub base_held : Hands → List Held
 base_held h = memory_held h.memory (out (part.Maps h.its) (Maps (translator_of h.translator.value)) ∷ [])
 
--- parts of redistributors before other parts
-abbrev pub redists_held : RedistParts → List Held → List Held
-redists_held redists others = pends_held redists 16 (confs_held redists 16 others)
+-- parts of redistributors, of which a machine has so many, before other parts
+abbrev pub redists_held : ℕ → RedistParts → List Held → List Held
+redists_held n redists others = pends_held redists n (confs_held redists n others)
 
 -- each was got after the one that follows it here: shards after memory and the maps, configurations after these, and what is pending in the end
 abbrev pub all_held : Setup → Hands → List Held
-all_held s h = redists_held h.redists (cached_held h.its s.shards h.cached (base_held h))
+all_held s h = redists_held (vcpu_count s) (redists_of h.memory) (cached_held h.its s.shards h.cached (base_held h))
 
 -- a pass holds all of it, and nothing else
 pub record HasInHand (s : Setup) (v : View) (h : Hands) : Type 0 where
   pub held : v.held ≡ all_held s h
   pub its : h.its < translator_count s
   pub whole : AreWhole s h.its h.cached
-  pub confs : AreConfsOfSet s h.needed.confs h.redists
-  pub pends : ArePendsOfSet s h.needed.pends h.redists
+  pub confs : AreConfsOfSet s h.needed.confs (redists_of h.memory)
+  pub pends : ArePendsOfSet s h.needed.pends (redists_of h.memory)
+  pub room : HasRoom s h.memory
 
 -- guest memory, if it is in hand
-abbrev pub windows_of : Option (Box GuestMemory Global) → List Window
+abbrev pub windows_of : Memory → List Window
 windows_of None = []
 windows_of (Some b) = b.value.memory
 
@@ -54,14 +84,12 @@ windows_of (Some b) = b.value.memory
 -- no shard, and nothing of a redistributor
 pub record IsBare (h : Hands) : Type 0 where
   pub cached_is : h.cached ≡ cached.Nothing
-  pub confs : AreNoConfs h.redists
-  pub pends : AreNoPends h.redists
+  pub confs : AreNoConfs (redists_of h.memory)
+  pub pends : AreNoPends (redists_of h.memory)
 
 -- the translator's maps and shards alone
-pub record IsOwn (h : Hands) : Type 0 where
-  pub memory : h.memory ≡ None
-  pub confs : AreNoConfs h.redists
-  pub pends : AreNoPends h.redists
+abbrev pub IsOwn : Hands → Type 0
+IsOwn h = h.memory ≡ None
 
 -- no shard, and nothing of a redistributor, but guest memory
 pub record IsBase (h : Hands) : Type 0 where
@@ -72,7 +100,7 @@ pub record IsBase (h : Hands) : Type 0 where
 pub record IsSameButNeeded (old new : Hands) : Type 0 where
   pub its : new.its ≡ old.its
   pub translator : new.translator ≡ old.translator
-  pub memory : new.memory ≡ old.memory
+  pub memory : new.memory ≡ with_redists old.memory (redists_of new.memory)
 
 -- the parts of redistributors in hand are those that the command reads or changes
 pub record HasNeeded (s : Setup) (c : Command) (h : Hands) : Type 0 where

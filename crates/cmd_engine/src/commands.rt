@@ -17,7 +17,7 @@ use crate::missed::Missed;
 use cmd_exec::{apply, make_room, plan};
 use its_command::Command;
 use its_plain::{Call, CmdReply, Reply, StepReply};
-use its_turns::{Machine, Pass, begin};
+use its_turns::{GuestMemory, Machine, Pass, begin};
 use its_types::{Gate, Placed, Word};
 
 /// Tries once to make a step that takes the command, and carries that out. What it needs is in
@@ -45,10 +45,14 @@ pub(crate) fn make_command<G: Gate>(
     let Ok(word) = begin(machine, pass) else {
         return Err(Missed::Spent);
     };
-    let Some(memory) = &hands.memory else {
+    let Some(memory) = &mut hands.memory else {
         unreachable!();
     };
-    let memory = &memory.memory;
+    let GuestMemory {
+        memory,
+        redists,
+        ..
+    } = &mut **memory;
     let translator = &mut *hands.translator;
     let shape = &machine.desc().shape;
     let planned = plan(
@@ -56,7 +60,7 @@ pub(crate) fn make_command<G: Gate>(
         &translator.regs,
         &translator.maps,
         memory,
-        &hands.redists,
+        redists,
         shape,
     );
     if make_room(&planned, &mut translator.maps).is_err() {
@@ -76,7 +80,7 @@ pub(crate) fn make_command<G: Gate>(
         &mut translator.regs,
         &mut translator.maps,
         memory,
-        &mut hands.redists,
+        redists,
         shape,
     );
     hands.cached.change(mark.change);

@@ -5,17 +5,19 @@ ghost use Rattle.owned_parts.specs.Owned.{translator_of};
 ghost use Rattle.its_steps.specs.Contents.{Held};
 ghost use Rattle.its_steps.specs.Contents as content;
 ghost use Rattle.its_steps.specs.World.{out};
+ghost use Rattle.its_steps.specs.Parts.{vcpu_count};
 ghost use Rattle.its_turns.specs.Machines.{setup, view, IsOf};
+ghost use Rattle.held_parts.specs.Redists.{AreConfsOfSet, ArePendsOfSet};
 ghost use Rattle.held_parts.specs.Taking.{holding};
 ghost use Rattle.cmd_engine.specs.Cached.{cached_held, AreWhole};
-ghost use Rattle.cmd_engine.specs.Hands.{HasInHand, memory_held};
+ghost use Rattle.cmd_engine.specs.Hands.{HasInHand, HasRoom, IsVacant};
+ghost use Rattle.cmd_engine.specs.Hands.{memory_held, redists_held, redists_of};
 
 use crate::cached::Cached;
 use cmd_exec::Needed;
 use held_parts::{put_confs, put_pends, put_shards};
 use its_turns::{GuestMemory, Machine, Pass, Value, put};
 use its_types::Part;
-use lpi_pending::Redists;
 use owned_parts::{RedistSet, Translator};
 use std::mem::replace;
 
@@ -26,20 +28,17 @@ pub(crate) struct Hands {
     pub its: u8,
     /// Its registers and maps.
     pub translator: Box<Translator>,
-    /// Guest memory, of a step.
+    /// Guest memory, of a step, with the parts of redistributors that are in hand in its places.
     pub memory: Option<Box<GuestMemory>>,
     /// Shards of its cache.
     pub cached: Cached,
     /// The parts of redistributors that are wanted: those of them that the machine has are in hand.
     pub needed: Needed,
-    /// These parts.
-    pub redists: Redists,
 }
 
 impl Hands {
     ghost use Rattle.std.specs.Prelude.{◌≡◌, ℕ, false};
     ghost use Rattle.owned_parts.specs.RedistSets.{is_in};
-    ghost use Rattle.held_parts.specs.Redists.{AreNoConfs, AreNoPends};
     ghost use Rattle.cmd_engine.specs.declared.cached.Cached.TheVariants as cached;
 
     /// No shard, and nothing of a redistributor.
@@ -50,8 +49,6 @@ impl Hands {
         ensures cached { result.cached ≡ cached.Nothing }
         ensures needs_no_conf { (v : ℕ) → is_in result.needed.confs v ≡ false }
         ensures needs_no_pend { (v : ℕ) → is_in result.needed.pends v ≡ false }
-        ensures confs { AreNoConfs result.redists }
-        ensures pends { AreNoPends result.redists }
     {
         Hands {
             its,
@@ -59,10 +56,9 @@ impl Hands {
             memory,
             cached: Cached::Nothing,
             needed: Needed {
-                confs: RedistSet::new(),
-                pends: RedistSet::new(),
+                confs: RedistSet::Nothing,
+                pends: RedistSet::Nothing,
             },
-            redists: Redists::new(),
         }
     }
 }
@@ -78,10 +74,37 @@ pub(crate) fn put_taken(machine: &Machine, pass: &mut Pass, hands: &mut Hands)
         (out (part.Maps hands.old.its)
         (content.Maps (translator_of hands.old.translator.value)) ∷ []) }
 {
-    put_pends(machine, pass, hands.needed.pends, &mut hands.redists);
-    put_confs(machine, pass, hands.needed.confs, &mut hands.redists);
+    put_redists(machine, pass, hands.needed, &mut hands.memory);
     put_cached(machine, pass, hands.its, &mut hands.cached);
     put_memory(machine, pass, hands.memory.take());
+}
+
+// Puts the parts of redistributors back, if there is memory, which they stand with.
+fn put_redists(
+    machine: &Machine,
+    pass: &mut Pass,
+    needed: Needed,
+    memory: &mut Option<Box<GuestMemory>>,
+)
+    requires of { IsOf machine.now pass.old }
+    requires confs { AreConfsOfSet (setup machine.now) needed.confs (redists_of memory.old) }
+    requires pends { ArePendsOfSet (setup machine.now) needed.pends (redists_of memory.old) }
+    requires room { HasRoom (setup machine.now) memory.old }
+    requires held { (others : List Held) × ((view pass.old).held
+        ≡ redists_held (vcpu_count (setup machine.now)) (redists_of memory.old) others) }
+    ensures of { IsOf machine.now pass.new }
+    ensures same { (others : List Held) →
+        memory_held memory.new others ≡ memory_held memory.old others }
+    ensures vacant { IsVacant (setup machine.now) memory.new }
+    ensures home { (others : List Held) → (view pass.old).held
+        ≡ redists_held (vcpu_count (setup machine.now)) (redists_of memory.old) others →
+        view pass.new ≡ holding (view pass.old) others }
+{
+    if let Some(memory) = memory {
+        let redists = &mut memory.redists;
+        put_pends(machine, pass, needed.pends, redists);
+        put_confs(machine, pass, needed.confs, redists);
+    }
 }
 
 fn put_cached(machine: &Machine, pass: &mut Pass, its: u8, cached: &mut Cached)
@@ -123,6 +146,7 @@ fn put_some(machine: &Machine, pass: &mut Pass, its: u8, cached: &mut Cached)
 
 fn put_memory(machine: &Machine, pass: &mut Pass, memory: Option<Box<GuestMemory>>)
     requires of { IsOf machine.now pass.old }
+    requires vacant { IsVacant (setup machine.now) memory }
     requires held { (others : List Held) × ((view pass.old).held
         ≡ memory_held memory others) }
     ensures of { IsOf machine.now pass.new }

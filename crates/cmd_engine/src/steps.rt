@@ -3,9 +3,10 @@ ghost use Rattle.std.specs.Prelude.{◌≡◌, ◌<◌, ◌∷◌, [], Some};
 ghost use Rattle.its_types.specs.declared.machine.Part.TheVariants as part;
 ghost use Rattle.its_plain.specs.declared.call.Call.TheVariants as call;
 ghost use Rattle.its_plain.specs.declared.call.Reply.TheVariants as reply;
+ghost use Rattle.lpi_pending.specs.InHand.{AreEmpty};
 ghost use Rattle.owned_parts.specs.Owned.{translator_of};
 ghost use Rattle.its_steps.specs.Contents as content;
-ghost use Rattle.its_steps.specs.Parts.{translator_count};
+ghost use Rattle.its_steps.specs.Parts.{translator_count, vcpu_count};
 ghost use Rattle.its_steps.specs.World.{out};
 ghost use Rattle.its_turns.specs.Machines.{setup, view, IsOf};
 ghost use Rattle.its_turns.specs.Told.{HasStood};
@@ -23,7 +24,6 @@ use its_plain::StepReply;
 use its_turns::{GuestMemory, Machine, NotMade, Pass, Value, pause, put};
 use its_types::{Gate, Part, Placed, Point};
 use owned_parts::Translator;
-use std::mem::forget;
 use std::sync::Wait;
 
 /// A translator takes its next command (IHI 0069, section 5.3), and waits for the turns that it
@@ -120,6 +120,7 @@ fn step_held<R: Wait, G: Gate>(
         (out (part.Maps its) (content.Maps (translator_of translator.value)) ∷ []) }
     requires stood { HasStood (setup machine.now) (part.Maps its)
         (content.Maps (translator_of translator.value)) }
+    requires room { AreEmpty (vcpu_count (setup machine.now)) memory.value.redists }
     ensures of { IsOf machine.now pass.new }
     ensures free { (view pass.new).held ≡ [] }
     ensures comes { ComesFrom (IsOfStep its) (view pass.old) (call.Step its) reply.Step
@@ -131,11 +132,8 @@ fn step_held<R: Wait, G: Gate>(
     let Hands {
         its,
         translator,
-        redists,
         ..
     } = hands;
-    // All its places are empty, so there is nothing to let go.
-    forget(redists);
     put(machine, pass, Part::Maps(its), Value::Maps(translator));
     made
 }

@@ -1,16 +1,19 @@
 //! How a call gets what it needs besides its translator's maps and memory.
-ghost use Rattle.std.specs.Prelude.{◌≡◌, ◌<◌};
+ghost use Rattle.std.specs.Prelude.{◌≡◌, ◌<◌, ℕ};
 ghost use Rattle.its_types.specs.declared.machine.Part.TheVariants as part;
 ghost use Rattle.its_steps.specs.Contents as content;
 ghost use Rattle.its_steps.specs.Endings.{ending_in, Pair, All};
-ghost use Rattle.its_steps.specs.Parts.{translator_count};
+ghost use Rattle.its_steps.specs.Parts.{translator_count, vcpu_count};
 ghost use Rattle.owned_parts.specs.Owned.{translator_of};
 ghost use Rattle.its_turns.specs.Machines.{setup, view, IsOf};
 ghost use Rattle.its_turns.specs.Told.{HasStood};
 ghost use Rattle.held_parts.specs.Shards.{HoldsNoShard};
-ghost use Rattle.held_parts.specs.Taking.{Goes};
+ghost use Rattle.held_parts.specs.Redists.{AreConfsOfSet, ArePendsOfSet};
+ghost use Rattle.held_parts.specs.Redists.{AreNoConfs, AreNoPends, HoldsNoConf, HoldsNoPend};
+ghost use Rattle.held_parts.specs.Taking.{Goes, TakesOnly};
 ghost use Rattle.cmd_engine.specs.Cached.{ending_as, ending_by, cached_held, AreWhole, IsAny};
-ghost use Rattle.cmd_engine.specs.Hands.{HasInHand, HasNeeded, IsBase, IsSameButNeeded};
+ghost use Rattle.cmd_engine.specs.Hands.{HasInHand, HasNeeded, HavePlaces, IsBase};
+ghost use Rattle.cmd_engine.specs.Hands.{IsSameButNeeded, redists_held};
 ghost use Rattle.cmd_engine.specs.Hands.{IsOfTranslator, IsOfStep};
 ghost use Rattle.cmd_engine.specs.Telling.{ReadLow};
 ghost use Rattle.cmd_engine.specs.declared.cached.Cached.TheVariants as shards;
@@ -18,11 +21,12 @@ ghost use Rattle.cmd_engine.specs.declared.cached.Cached.TheVariants as shards;
 use crate::cached::Cached;
 use crate::endings::{Ending, ending_of};
 use crate::hands::Hands;
-use cmd_exec::needs;
+use cmd_exec::{Needed, needs};
 use held_parts::{Shards, Waiting, take_confs, take_pends, take_shard, take_shards};
 use its_command::Command;
 use its_turns::{Machine, Pass, look};
 use its_types::{DeviceId, EventId};
+use lpi_pending::Redists;
 use std::sync::Wait;
 
 /// Takes what a command needs: the shards that it may change, then configurations, then what is
@@ -56,9 +60,35 @@ pub(crate) fn take_needed<R: Wait>(
         &machine.desc().shape,
     );
     take_cached(rt, machine, pass, hands.its, ends, &mut hands.cached);
+    match &mut hands.memory {
+        Some(memory) => take_redists(rt, machine, pass, hands.needed, &mut memory.redists),
+        None => unreachable!(),
+    }
+}
+
+// Takes these configurations, and then what is pending, and puts both in their empty places.
+fn take_redists<R: Wait>(
+    rt: &R,
+    machine: &Machine,
+    pass: &mut Pass,
+    needed: Needed,
+    redists: &mut Redists,
+)
+    requires of { IsOf machine.now pass.old }
+    requires empty { AreNoConfs redists.old × AreNoPends redists.old }
+    requires room { HavePlaces (setup machine.now) redists.old }
+    requires free { HoldsNoConf (view pass.old).held × HoldsNoPend (view pass.old).held }
+    ensures of { IsOf machine.now pass.new }
+    ensures takes { (its : ℕ) → TakesOnly (IsOfStep its) (view pass.old) (view pass.new) }
+    ensures held { (view pass.new).held
+        ≡ redists_held (vcpu_count (setup machine.now)) redists.new (view pass.old).held }
+    ensures confs { AreConfsOfSet (setup machine.now) needed.confs redists.new }
+    ensures pends { ArePendsOfSet (setup machine.now) needed.pends redists.new }
+    ensures room { HavePlaces (setup machine.now) redists.new }
+{
     let how = Waiting { rt };
-    take_confs(&how, machine, pass, hands.needed.confs, &mut hands.redists);
-    take_pends(&how, machine, pass, hands.needed.pends, &mut hands.redists);
+    take_confs(&how, machine, pass, needed.confs, redists);
+    take_pends(&how, machine, pass, needed.pends, redists);
 }
 
 /// Takes the shards that a call may change: that of a pair that it ends, and every one where it may

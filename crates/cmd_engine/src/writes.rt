@@ -15,7 +15,6 @@ use crate::writing::{RegWrite, make_write};
 use held_parts::{Waiting, take_maps};
 use its_turns::{Machine, Pass, Spent, Value, pause, put};
 use its_types::{Gate, Part, Placed, Point};
-use std::mem::forget;
 use std::sync::Wait;
 
 /// Writes `size` bytes, 4 or 8, at an offset of a translator's control frame. A write that turns
@@ -100,11 +99,8 @@ fn write_once<R: Wait, G: Gate>(
     let Hands {
         its,
         translator,
-        redists,
         ..
     } = hands;
-    // All its places are empty, so there is nothing to let go.
-    forget(redists);
     put(machine, pass, Part::Maps(its), Value::Maps(translator));
     made
 }

@@ -98,7 +98,7 @@ pub fn fill_signal<G: Gate>(
     let fill = ShardChange::Fill(message.dev, message.ev, target);
     match try_commit(machine, pass, gate, call, &Reply::Signal(signal), fill) {
         Ok(word) => {
-            hand.pend.pending.set(target.intid);
+            hand.pend.set(target.intid);
             let stamp = machine.stamp_of(word, message.its);
             hand.shard.fill(message.dev, message.ev, stamp, target);
             put_three(machine, pass, message.its, maps, hand);

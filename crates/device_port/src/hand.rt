@@ -31,12 +31,14 @@ impl Hand {
     pub fn on(&self) -> bool
         ensures { result ≡ self.now.pend.value.accepts }
     {
-        self.pend.accepts
+        self.pend.accepts()
     }
 
     /// The LPI is pending, where LPIs are on.
     pub fn deliver(&mut self, on: bool)
-        requires { is_lpi self.old.pend.value.pending.lpi_bits self.old.target.intid.0 ≡ true }
+        requires lpi { is_lpi self.old.pend.value.pending.lpi_bits self.old.target.intid.0
+            ≡ true }
+        requires on { on ≡ true → self.old.pend.value.accepts ≡ true }
         ensures number { self.new.number ≡ self.old.number }
         ensures target { self.new.target ≡ self.old.target }
         ensures shard { self.new.shard ≡ self.old.shard }
@@ -46,7 +48,7 @@ impl Hand {
             → HasLpisOfPend s self.new.pend.value }
     {
         if on {
-            self.pend.pending.set(self.target.intid);
+            self.pend.set(self.target.intid);
         }
     }
 }

@@ -17,7 +17,7 @@ use Rattle.its_plain.specs.declared.call.Call.TheVariants as call
 use Rattle.its_plain.specs.declared.call.Reply.{Reply}
 use Rattle.its_plain.specs.declared.call.Reply.TheVariants as reply
 use Rattle.its_steps.specs.Calls.{staying, redistributor_held, parts_held, MayLeave}
-use Rattle.its_steps.specs.Contents.{Held, Mem, Conf, Pend}
+use Rattle.its_steps.specs.Contents.{Held, Mem, Conf}
 use Rattle.its_steps.specs.Good.{Holds, Apart}
 use Rattle.its_steps.specs.MayCall.{IsAnswered, MayCall}
 use Rattle.its_steps.specs.MayCommit.{IsOut}
@@ -29,7 +29,7 @@ use Rattle.its_steps.proofs.Calm.{calm_may}
 use Rattle.its_steps.proofs.Gicr.{confs, rereads, turn_offs, gicrs}
 use Rattle.its_steps.proofs.PutIn.{put_conf, has_both, both_apart}
 use Rattle.gicr_lpi.specs.Accesses.{read_by, write_call, asked}
-use Rattle.gicr_lpi.specs.Hands.{HandState, HasEnough, held_of, memory_before, done_to, after_write}
+use Rattle.gicr_lpi.specs.Hands.{HandState, HasEnough, held_of, done_to, after_write}
 use Rattle.gicr_lpi.specs.declared.access.GicrAccess.{GicrAccess}
 
 not_both : (A : Type 0) (b : Bool) → b ≡ false → b ≡ true → A

@@ -16,7 +16,7 @@ use Rattle.its_turns.specs.declared.attempts.Lost.TheVariants as lost
 use Rattle.its_turns.proofs.Telling.{stays_again, placed_again, leaves_from}
 use Rattle.its_steps.specs.Parts.{Setup}
 use Rattle.held_parts.specs.Taking.{TakesInTime, Goes, Loses, WasMade, holding}
-use Rattle.held_parts.proofs.Going.{takes_one, takes_then, going_first, going_takes, going_looked, going_home, going_stays, going_made, made_home, made_placed}
+use Rattle.held_parts.proofs.Going.{going_looked, going_home, going_stays, going_made, made_home, made_placed}
 use Rattle.held_parts.proofs.Going.{got_then, going_lost, loses_home}
 use Rattle.gicr_lpi.specs.Asking.{Ends, AsksOnce}
 
@@ -32,7 +32,7 @@ module _ (P : Part → Type 0) where
         let m : WasMade P v (staying w c r Keep) z = made_home P v y z (staying w c r Keep) left (going_made P v x y (staying w c r Keep) on makes) home in
         (made_placed P v z (staying w c r Keep) m (ap (λ (u : View). u.held) home ∙ same), leaves_from v z z.tries (staying w c r Keep) m.made refl, m.got)
 
-    still : (y z : View) (left : List Held) → Goes P v y → z ≡ holding y left → left ≡ v.held → StillAsks P v z
+    pub still : (y z : View) (left : List Held) → Goes P v y → z ≡ holding y left → left ≡ v.held → StillAsks P v z
     still y z left g home same = let h = going_home P v y z left g home in record {
       stays = going_stays P v z h (ap (λ (u : View). u.held) home ∙ same);
       got = h.got;

@@ -1,5 +1,5 @@
 -- What a pass knows once it took what a write needs.
-use Rattle.std.proofs.Common.{◌≡◌, true, List, [], ◌∷◌, refl, ap, sym, ◌∙◌, subst, inl, inr}
+use Rattle.std.proofs.Common.{◌≡◌, true, List, refl, ap, ◌∙◌, inl, inr}
 use Rattle.gicr_regs.specs.Registers.{reads_tables, changes_pending}
 use Rattle.guest_windows.specs.Windows.{Window}
 use Rattle.std.proofs.Common.{Option}
@@ -8,7 +8,7 @@ use Rattle.its_types.specs.declared.machine.Part.TheVariants as part
 use Rattle.its_plain.specs.Plain.{ConfState, PendState}
 use Rattle.its_steps.specs.Contents.{Conf, Pend, Mem, Held}
 use Rattle.its_steps.specs.Parts.{Setup}
-use Rattle.its_steps.specs.World.{View, out}
+use Rattle.its_steps.specs.World.{View}
 use Rattle.its_turns.specs.Told.{HasStood, released}
 use Rattle.its_turns.specs.Contents.{held_before}
 use Rattle.held_parts.specs.Taking.{TakesInTime, Goes}

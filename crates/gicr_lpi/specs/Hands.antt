@@ -12,7 +12,10 @@ use Rattle.its_plain.specs.Plain.{Redistributor, ConfState, PendState, conf_of, 
 use Rattle.its_steps.specs.Contents.{Held, Mem, Conf, Pend}
 use Rattle.its_steps.specs.World.{out}
 use Rattle.its_turns.specs.declared.value.GuestMemory.{GuestMemory}
-use Rattle.lpi_pending.specs.declared.pend.Pend.{Pend as PendInHand}
+use Rattle.lpi_pending.specs.Pend.{Pend as PendInHand}
+use Rattle.lpi_pending.specs.Rooms.{HasRoomFor}
+use Rattle.lpi_pending.specs.declared.gicr.LpiRoom.{LpiRoom}
+use Rattle.lpi_pending.specs.InHand.{AreEmpty}
 use Rattle.owned_parts.specs.Owned.{conf_state, pend_state, HasLpisOfConf, HasLpisOfPend}
 use Rattle.gicr_lpi.specs.Accesses.{asked}
 use Rattle.gicr_lpi.specs.declared.access.GicrAccess.{GicrAccess}
@@ -54,6 +57,10 @@ pub record HasEnough (a : GicrAccess) (h : HandState) : Type 0 where
   pub memory : reads_tables (asked a h.conf) ≡ true → is_some h.memory ≡ true
   pub pend : changes_pending (asked a h.conf) ≡ true → is_some h.pend ≡ true
 
+-- the write takes no memory, or this room: some where the guest programs the tables, and the write asks to turn LPIs on
+abbrev pub HasRoom : Bool → Shape → GicrAccess → HandState → Option LpiRoom → Type 0
+HasRoom programmed s a h room = programmed ≡ true → HasRoomFor s.lpi_bits (asked a h.conf) room
+
 abbrev pub windows_in : Option (List Window × Option Tracked) → List Window
 windows_in None = []
 windows_in (Some m) = m.0
@@ -75,8 +82,14 @@ abbrev pub HasLpisIfPend : Shape → Option (Box PendInHand Global) → Type 0
 HasLpisIfPend s None = Unit {0}
 HasLpisIfPend s (Some b) = HasLpisOfPend s b.value
 
--- it has the machine's LPIs, and low bases
+-- memory comes with an empty place for each part of each redistributor
+abbrev pub HasPlacesIfMemory : Shape → Option (Box GuestMemory Global) → Type 0
+HasPlacesIfMemory s None = Unit {0}
+HasPlacesIfMemory s (Some b) = AreEmpty s.vcpus b.value.redists
+
+-- it has the machine's LPIs and places, and low bases
 pub record IsHand (s : Shape) (h : Hand) : Type 0 where
+  pub places : HasPlacesIfMemory s h.memory
   pub conf_lpis : HasLpisOfConf s h.conf.value
   pub pend_lpis : HasLpisIfPend s h.pend
   pub low : AreLow h.conf.value.bases

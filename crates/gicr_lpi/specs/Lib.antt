@@ -1,3 +1,4 @@
 pub mod Accesses
 pub mod Hands
 pub mod Asking
+pub mod Writing

@@ -12,12 +12,15 @@ ghost use Rattle.held_parts.specs.Taking.{holding};
 ghost use Rattle.gicr_lpi.specs.Accesses.{asked};
 ghost use Rattle.gicr_lpi.specs.Hands.{state_of, held_of, memory_state, memory_before, IsHand};
 ghost use Rattle.gicr_lpi.specs.Hands.{pend_of_hand, pend_before, windows_in, HasLpisIfPend};
+ghost use Rattle.lpi_pending.specs.Rooms.{HasRoomFor};
+ghost use Rattle.gicr_lpi.specs.Hands.{HasPlacesIfMemory};
 
 use crate::access::GicrAccess;
 use its_turns::{GuestMemory, Machine, Pass, Value, put};
 use its_types::{Part, Shape, Vcpu};
 use lpi_config::Conf;
-use lpi_pending::{Pend, conf_set, conf_write, gicr_write, turn_off_write};
+use lpi_pending::{LpiRoom, Pend, conf_set, conf_write, gicr_write, room_for, turn_off_write};
+use std::alloc::AllocError;
 
 /// The configuration, and what the write needs beside it.
 #[derive(Drop)]
@@ -31,13 +34,47 @@ pub struct Hand {
 }
 
 impl Hand {
-    ghost use Rattle.std.specs.Prelude.{◌≡◌};
-    ghost use Rattle.gicr_lpi.specs.Hands.{state_of, after_write, HasEnough, IsHand};
+    ghost use Rattle.std.specs.Prelude.{◌≡◌, true, IfOk, IfErr};
+    ghost use Rattle.lpi_pending.specs.Rooms.{is_enable};
+    ghost use Rattle.gicr_lpi.specs.Accesses.{asked};
+    ghost use Rattle.gicr_lpi.specs.Hands.{state_of, after_write, HasEnough, HasRoom, IsHand};
+    ghost use Rattle.owned_parts.specs.Owned.{conf_state};
+
+    /// The memory that the write takes: some where the guest programs the tables, and the write
+    /// asks to turn LPIs on.
+    pub fn room(
+        &self,
+        access: GicrAccess,
+        shape: &Shape,
+        programmed: bool,
+    ) -> Result<Option<LpiRoom>, AllocError>
+        requires enough { HasEnough access (state_of self.now) }
+        requires hand { IsHand shape.now self.now }
+        ensures room { IfOk result (HasRoom programmed shape.now access (state_of self.now)) }
+        ensures rare { IfErr result (λ _.
+            is_enable (asked access (conf_state self.now.conf.value)) ≡ true) }
+    {
+        let _ = shape;
+        if !programmed {
+            return Ok(None);
+        }
+        match &self.pend {
+            Some(pend) => room_for(&self.conf, pend, access.off, access.size, access.value),
+            None => Ok(None),
+        }
+    }
 
     /// Writes, where the guest programs the tables.
-    pub fn written(self, access: GicrAccess, shape: &Shape, programmed: bool) -> Hand
+    pub fn written(
+        self,
+        access: GicrAccess,
+        shape: &Shape,
+        programmed: bool,
+        room: Option<LpiRoom>,
+    ) -> Hand
         requires enough { HasEnough access (state_of self) }
         requires hand { IsHand shape.now self }
+        requires room { HasRoom programmed shape.now access (state_of self) room }
         ensures after { state_of result
             ≡ after_write programmed shape.now access (state_of self) }
         ensures hand { IsHand shape.now result }
@@ -52,7 +89,7 @@ impl Hand {
         } = self;
         let pend = match pend {
             Some(mut pend) => {
-                write_both(&mut conf, &mut pend, &memory, shape, access);
+                write_both(&mut conf, &mut pend, &memory, shape, access, room);
                 Some(pend)
             }
             None => {
@@ -72,12 +109,14 @@ fn write_both(
     memory: &Option<Box<GuestMemory>>,
     shape: &Shape,
     access: GicrAccess,
+    room: Option<LpiRoom>,
 )
     requires low { AreLow conf.old.bases }
     requires conf_lpis { HasLpisOfConf shape.now conf.old }
     requires pend_lpis { HasLpisOfPend shape.now pend.old }
     requires enough { registers.reads_tables (asked access (conf_state conf.old)) ≡ true
         → is_some memory.now ≡ true }
+    requires room { HasRoomFor shape.now.lpi_bits (asked access (conf_state conf.old)) room }
     ensures done { redistributor_of conf.new pend.new ≡ registers.done_by shape.now
         (windows_in (memory_state memory.now)) (asked access (conf_state conf.old))
         (redistributor_of conf.old pend.old) }
@@ -92,7 +131,7 @@ fn write_both(
         ..
     } = access;
     match memory {
-        Some(memory) => gicr_write(conf, pend, &memory.memory, shape, off, size, value),
+        Some(memory) => gicr_write(conf, pend, &memory.memory, shape, off, size, value, room),
         None => turn_off_write(conf, pend, shape, off, size, value),
     }
 }
@@ -156,6 +195,7 @@ fn put_pend(machine: &Machine, pass: &mut Pass, vcpu: Vcpu, pend: Option<Box<Pen
 
 fn put_memory(machine: &Machine, pass: &mut Pass, memory: Option<Box<GuestMemory>>)
     requires of { IsOf machine.now pass.old }
+    requires places { HasPlacesIfMemory (setup machine.now).start.layout.shape memory }
     requires held { (view pass.old).held ≡ memory_before (memory_state memory) [] }
     ensures of { IsOf machine.now pass.new }
     ensures home { view pass.new ≡ holding (view pass.old) [] }

@@ -28,6 +28,8 @@ pub fn take_hand<R: Wait>(rt: &R, machine: &Machine, pass: &mut Pass, access: Gi
         (view pass.new) }
     ensures held { (view pass.new).held ≡ held_of access.vcpu (state_of result) }
     ensures enough { HasEnough access (state_of result) }
+    ensures stood { HasStood (setup machine.now) (part.Conf access.vcpu)
+        (content.Conf (conf_state result.conf.value)) }
     ensures hand { IsHand (setup machine.now).start.layout.shape result }
 {
     let mut hand = take_registers(rt, machine, pass, access);

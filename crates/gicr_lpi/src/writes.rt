@@ -1,28 +1,30 @@
 //! Writes of the LPI registers.
 ghost use Rattle.std.specs.Prelude.{◌≡◌, ◌<◌, []};
-ghost use Rattle.its_plain.specs.declared.call.Call.TheVariants as call;
 ghost use Rattle.its_plain.specs.declared.call.Reply.TheVariants as reply;
 ghost use Rattle.its_steps.specs.Parts.{vcpu_count};
 ghost use Rattle.its_turns.specs.Machines.{setup, view, IsOf};
 ghost use Rattle.gicr_lpi.specs.Accesses as spec;
-ghost use Rattle.gicr_lpi.specs.Accesses.{IsOfWrite, write_call};
-ghost use Rattle.gicr_lpi.specs.Asking.{Ends, AsksOnce, AsksParts};
-ghost use Rattle.gicr_lpi.specs.Hands.{state_of, held_of, HasEnough, IsHand};
+ghost use Rattle.gicr_lpi.specs.Accesses.{write_call};
+ghost use Rattle.gicr_lpi.specs.Asking.{Ends};
+ghost use Rattle.gicr_lpi.specs.Writing.{Writes, WritesOnce};
+ghost use Rattle.gicr_lpi.specs.Hands.{state_of, held_of, HasEnough, HasRoom, IsHand};
 
 use crate::access::GicrAccess;
 use crate::hand::{Hand, put_hand};
 use crate::taking::take_hand;
 use its_plain::Reply;
 use its_steps::ShardChange;
-use its_turns::{Lost, Machine, Pass, Spent, pause, try_commit};
+use its_turns::{Lost, Machine, NotMade, Pass, pause, try_commit};
 use its_types::{Gate, Placed, Vcpu};
+use lpi_pending::LpiRoom;
 use std::sync::Wait;
 
 /// Writes `size` bytes, 4 or 8, at an offset of a virtual processor's LPI registers. A write that
 /// turns LPIs on or names LPIs to be read again reads guest memory too, and then its turn is taken;
 /// one that turns LPIs on or off takes what is pending. Nothing is written where the guest doesn't
 /// program the LPI tables. LPIs can be turned off where the machine is for Linux guests; what was
-/// pending is lost then.
+/// pending is lost then. Turning LPIs on takes memory for the configuration and the pending set,
+/// and where there is none, every part is as it was.
 ///
 /// ```
 /// // GICR_CTLR, bit 0: EnableLPIs.
@@ -37,14 +39,13 @@ pub fn write_gicr<R: Wait, G: Gate>(
     off: u32,
     size: u8,
     value: u64,
-) -> Result<Placed<()>, Spent>
+) -> Result<Placed<()>, NotMade>
     requires of { IsOf machine.now pass.old }
     requires free { (view pass.old).held ≡ [] }
     requires vcpu { vcpu.0 < vcpu_count (setup machine.now) }
     ensures of { IsOf machine.now pass.new }
-    ensures answer { AsksParts (IsOfWrite (setup machine.now) (spec.access vcpu off size value))
-        (view pass.old) (call.WriteGicr vcpu off size value) (λ _. reply.Ok) (view pass.new)
-        result }
+    ensures answer { Writes (setup machine.now) (spec.access vcpu off size value) (view pass.old)
+        (view pass.new) result }
 {
     let access = GicrAccess {
         vcpu,
@@ -55,11 +56,21 @@ pub fn write_gicr<R: Wait, G: Gate>(
     for _ in rt.forever() {
         match write_once(rt, machine, pass, gate, access) {
             Ok(placed) => return Ok(placed),
-            Err(Lost::Spent) => return Err(Spent),
-            Err(Lost::Raced(_)) => pause(),
+            Err(Unwritten::Lost(Lost::Spent)) => return Err(NotMade::Spent),
+            Err(Unwritten::Lost(Lost::Raced(_))) => pause(),
+            Err(Unwritten::NoMemory) => return Err(NotMade::NoMemory),
         }
     }
     unreachable!()
+}
+
+// Why a write was not made that was tried once.
+#[derive(Clone, Copy)]
+enum Unwritten {
+    // It had what it needs.
+    Lost(Lost),
+    // There was no memory for it.
+    NoMemory,
 }
 
 // Waits for what the write needs, and tries once to make it.
@@ -69,16 +80,25 @@ fn write_once<R: Wait, G: Gate>(
     pass: &mut Pass,
     gate: &G,
     access: GicrAccess,
-) -> Result<Placed<()>, Lost>
+) -> Result<Placed<()>, Unwritten>
     requires of { IsOf machine.now pass.old }
     requires free { (view pass.old).held ≡ [] }
     requires vcpu { access.vcpu.0 < vcpu_count (setup machine.now) }
     ensures of { IsOf machine.now pass.new }
-    ensures answer { AsksOnce (IsOfWrite (setup machine.now) access) (view pass.old)
-        (write_call access) (λ _. reply.Ok) (view pass.new) result }
+    ensures answer { WritesOnce (setup machine.now) access (view pass.old) (view pass.new) result }
 {
     let hand = take_hand(rt, machine, pass, access);
-    write_with(machine, pass, gate, access, hand)
+    let desc = machine.desc();
+    match hand.room(access, &desc.shape, desc.tables.are_programmed()) {
+        Ok(room) => match write_with(machine, pass, gate, access, hand, room) {
+            Ok(placed) => Ok(placed),
+            Err(lost) => Err(Unwritten::Lost(lost)),
+        },
+        Err(_) => {
+            put_hand(machine, pass, access.vcpu, hand);
+            Err(Unwritten::NoMemory)
+        }
+    }
 }
 
 // The write has what it needs in hand.
@@ -88,12 +108,15 @@ fn write_with<G: Gate>(
     gate: &G,
     access: GicrAccess,
     hand: Hand,
+    room: Option<LpiRoom>,
 ) -> Result<Placed<()>, Lost>
     requires of { IsOf machine.now pass.old }
     requires vcpu { access.vcpu.0 < vcpu_count (setup machine.now) }
     requires held { (view pass.old).held ≡ held_of access.vcpu (state_of hand) }
     requires enough { HasEnough access (state_of hand) }
     requires hand { IsHand (setup machine.now).start.layout.shape hand }
+    requires room { HasRoom (setup machine.now).start.layout.gicr
+        (setup machine.now).start.layout.shape access (state_of hand) room }
     ensures of { IsOf machine.now pass.new }
     ensures answer { Ends (view pass.old) (write_call access) (λ _. reply.Ok) (view pass.new)
         result }
@@ -108,7 +131,8 @@ fn write_with<G: Gate>(
     ) {
         Ok(word) => {
             let desc = machine.desc();
-            let hand = hand.written(access, &desc.shape, desc.tables.are_programmed());
+            let programmed = desc.tables.are_programmed();
+            let hand = hand.written(access, &desc.shape, programmed, room);
             put_hand(machine, pass, access.vcpu, hand);
             Ok(Placed {
                 place: word.place,

@@ -29,6 +29,7 @@ pub fn poke_answer(memory: &Memory, addr: Addr, bytes: &Bytes64) -> Reply
 pub fn prepare(guest: &mut GuestMemory) -> Result<(), AllocError>
     ensures memory { guest.new.memory ≡ guest.old.memory }
     ensures track { guest.new.track ≡ guest.old.track }
+    ensures redists { guest.new.redists ≡ guest.old.redists }
     ensures ready { OnOk result (guest.new.spare ≡ true) }
 {
     guest.memory.prepare(&mut guest.spare)
@@ -37,9 +38,10 @@ pub fn prepare(guest: &mut GuestMemory) -> Result<(), AllocError>
 /// Writes the bytes where one window has them. Their pages are dirty then.
 pub fn write_bytes(guest: &mut GuestMemory, addr: Addr, bytes: &Bytes64)
     requires { guest.old.spare ≡ true }
-    ensures { content.Mem guest.new.memory guest.new.track
+    ensures written { content.Mem guest.new.memory guest.new.track
         ≡ poked_content guest.old.memory guest.old.track addr.0 bytes.now
         (write_at guest.old.memory addr.0 bytes.now) }
+    ensures redists { guest.new.redists ≡ guest.old.redists }
 {
     let bytes = bytes.as_slice();
     let written = guest.memory.write_prepared(&mut guest.spare, addr, bytes);

@@ -34,6 +34,7 @@ pub fn catch_up(guest: &mut GuestMemory)
     requires { HasSameWindows guest.old.memory guest.old.track }
     ensures memory { guest.new.memory ≡ guest.old.memory }
     ensures track { guest.new.track ≡ option_map (caught_up guest.old.memory) guest.old.track }
+    ensures redists { guest.new.redists ≡ guest.old.redists }
 {
     if let Some(track) = &mut guest.track {
         track.copy_from(&guest.memory);

@@ -1,5 +1,5 @@
 -- Parts held in a row.
-use Rattle.std.proofs.Common.{◌≡◌, ◌≢◌, ℕ, zero, suc, ◌+◌, ◌<◌, ◌≤◌, List, ◌∷◌, Option, Some, None, refl, ap, sym, ◌∙◌, subst, inl, inr, arith}
+use Rattle.std.proofs.Common.{◌≡◌, ◌≢◌, ℕ, zero, suc, ◌+◌, ◌-◌, ◌<◌, ◌≤◌, List, ◌∷◌, Option, Some, None, refl, ap, sym, ◌∙◌, subst, inl, inr, arith}
 use Rattle.std.proofs.lemmas.Bool.{cases_lt}
 use Rattle.std.specs.List.{AllByRecursion}
 use Rattle.its_types.specs.declared.machine.Part.{Part}
@@ -129,9 +129,17 @@ unfolding in_row
 row_skips row others n k is there = ap (λ (m : ℕ). in_row row m others) is ∙ ap (λ (o : Option Held). with_one o (in_row row k others)) there
 
 -- numbers whose parts aren't held may be left out
-pub row_short : (row : Row) (others : List Held) (n m : ℕ) → ((k : ℕ) → n ≤ k → row k ≡ None) → in_row row (n + m) others ≡ in_row row n others
-row_short row others n zero gone = (let e : n + 0 ≡ n = omega arith in ap (λ (k : ℕ). in_row row k others) e)
-row_short row others n (suc m) gone = row_skips row others (n + suc m) (n + m) (omega arith) (gone (n + m) (omega arith)) ∙ row_short row others n m gone
+skipped : (row : Row) (others : List Held) (n m : ℕ) → ((k : ℕ) → n ≤ k → k < n + m → row k ≡ None) → in_row row (n + m) others ≡ in_row row n others
+skipped row others n zero gone = (let e : n + 0 ≡ n = omega arith in ap (λ (k : ℕ). in_row row k others) e)
+skipped row others n (suc m) gone = row_skips row others (n + suc m) (n + m) (omega arith) (gone (n + m) (omega arith) (omega arith))
+    ∙ skipped row others n m (λ k le lt. gone k le (omega (arith, lt)))
+
+-- those from n on and below another number
+pub row_short : (row : Row) (others : List Held) (n end : ℕ) → n ≤ end → ((k : ℕ) → n ≤ k → k < end → row k ≡ None)
+    → in_row row end others ≡ in_row row n others
+row_short row others n end le gone =
+    let e : n + (end - n) ≡ end = omega (arith, le) in
+    ap (λ (k : ℕ). in_row row k others) (sym e) ∙ skipped row others n (end - n) (λ k from lt. gone k from (omega (arith, lt, e)))
 
 -- ---- a renewal
 

@@ -1,6 +1,5 @@
 -- Lists by their items.
-use Rattle.std.proofs.Common.{◌≡◌, ◌==◌, ◌||◌, ◌+◌, ℕ, zero, suc, nat_lt, Bool, List, [], ◌∷◌, length, Some, get_or, inl, inr, ap, sym, ◌∙◌, arith}
-use Rattle.std.proofs.lemmas.Bool.{cases_lt, cases_eq, lt-ltb, le-ltb, eq-eqb, ne_eqb}
+use Rattle.std.proofs.Common.{◌≡◌, ℕ, zero, suc, List, [], ◌∷◌, length, Some, get_or, ap, sym, arith}
 use Rattle.std.specs.Prelude.{slice_get}
 use Rattle.std.proofs.lemmas.Option.{same_Some}
 
@@ -31,15 +30,3 @@ pub got_at : {X : Type 0} (xs : List X) (v : ℕ) (d x : X) → slice_get xs v �
 got_at [] v d x is = absurd cc
 got_at (y ∷ ys) zero d x is = same_Some y x is
 got_at (y ∷ ys) (suc v) d x is = got_at ys v d x is
-
--- ---- numbers below another
-
--- one number more
-pub below_more : (v k : ℕ) → (nat_lt v k || k == v) ≡ nat_lt v (k + 1)
-below_more v k = elim (cases_lt v k) [
-  | inl lt ↦ let e = lt-ltb v k lt in ap (λ (b : Bool). b || k == v) e ∙ sym (lt-ltb v (k + 1) (omega (arith, lt)))
-  | inr le ↦ elim (cases_eq k v) [
-    | inl same ↦ let no = le-ltb v k le in (λ d. no d || (eq-eqb k v same) d) ∙ sym (lt-ltb v (k + 1) (omega (arith, same)))
-    | inr ne ↦ let no = le-ltb v k le in (λ d. no d || (ne_eqb k v ne) d) ∙ sym (le-ltb v (k + 1) (omega (arith, le, ne)))
-  ]
-]

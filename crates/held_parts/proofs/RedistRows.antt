@@ -8,8 +8,8 @@ use Rattle.its_types.specs.declared.machine.Part.{Part}
 use Rattle.its_types.specs.declared.machine.Part.TheVariants as part
 use Rattle.its_plain.specs.Parts.{conf, pend}
 use Rattle.its_plain.specs.Plain.{Plain}
-use Rattle.lpi_config.specs.declared.conf.Conf.{Conf as ConfInHand}
-use Rattle.lpi_pending.specs.declared.pend.Pend.{Pend as PendInHand}
+use Rattle.lpi_config.specs.Conf.{Conf as ConfInHand}
+use Rattle.lpi_pending.specs.Pend.{Pend as PendInHand}
 use Rattle.its_steps.specs.Contents.{Content, Held}
 use Rattle.its_steps.specs.Good.{Holds, Apart}
 use Rattle.its_steps.specs.MayCall.{Owes}
@@ -19,6 +19,7 @@ use Rattle.its_steps.specs.Renewal.{renewed, content_in}
 use Rattle.its_steps.specs.declared.commit.Commit.{Commit}
 use Rattle.its_steps.proofs.Owed.{owes_holds}
 use Rattle.owned_parts.specs.RedistSets.{is_in}
+use Rattle.owned_parts.specs.declared.redist_set.RedistSet.{RedistSet}
 use Rattle.held_parts.specs.Rows.{in_row}
 use Rattle.held_parts.specs.Redists.{at_place, held_if_in, row_of, conf_held, pend_held, AreWanted}
 use Rattle.held_parts.proofs.InRows.{row_holds, row_owes, row_has, row_lacks, row_all, row_apart, row_renewed}
@@ -120,7 +121,7 @@ module _ {T : Type 0} (as_held : ℕ → T → Held) where
           row_apart (row_of as_held places) others n (differ places) (λ k x is holds.
           lacks k (subst (λ (p : Part). Holds p others) (own_part places k x (in_row_is places k x is)) holds)) apart
 
-      pub parts_stand : (has_lpis : T → Type 0) (s : Setup) (set : ℕ) (n : ℕ) → AreWanted T has_lpis s set places
+      pub parts_stand : (has_lpis : T → Type 0) (s : Setup) (set : RedistSet) (n : ℕ) → AreWanted T has_lpis s set places
           → AllByRecursion (λ x. Stands s x.part) others → AllByRecursion (λ x. Stands s x.part) (all n)
       parts_stand has_lpis s set n are each = row_all (row_of as_held places) others (λ x. Stands s x.part) n (λ k x lt is.
           let i = in_row_is places k x is in

@@ -1,7 +1,7 @@
 -- All parts of a machine but shards: the state that they stand for, and as they are held.
-use Rattle.std.proofs.Common.{◌≡◌, ◌≢◌, ◌⊎◌, ℕ, zero, suc, ◌+◌, ◌<◌, ◌≤◌, true, false, ◌&&◌, nat_lt, List, [], ◌∷◌, length, replicate}
+use Rattle.std.proofs.Common.{◌≡◌, ◌≢◌, ◌⊎◌, ℕ, zero, suc, ◌<◌, ◌≤◌, true, false, ◌&&◌, nat_lt, List, [], ◌∷◌, length}
 use Rattle.std.proofs.Common.{Option, Some, None}
-use Rattle.std.proofs.Common.{get_or, ◌-◌, refl, sym, ap, ◌∙◌, subst, inl, inr, arith}
+use Rattle.std.proofs.Common.{get_or, refl, sym, ap, ◌∙◌, subst, inl, inr, arith}
 use Rattle.std.specs.Prelude.{slice_get, is_some, ◌==◌, Box}
 use Rattle.std.specs.Global.{Global}
 use Rattle.std.specs.List.{AllByRecursion}
@@ -21,11 +21,12 @@ use Rattle.its_plain.specs.declared.call.Entry.{Entry}
 use Rattle.its_plain.specs.declared.layout.Layout.{Layout}
 use Rattle.its_plain.specs.Plain.{ConfState, PendState, conf_of, pend_of, joined}
 use Rattle.its_plain.specs.Parts.{conf, pend}
-use Rattle.lpi_config.specs.declared.conf.Conf.{Conf as ConfInHand}
-use Rattle.lpi_pending.specs.InHand.{RedistParts, conf_in, pend_in, no_redists}
-use Rattle.lpi_pending.specs.declared.pend.Pend.{Pend as PendInHand}
+use Rattle.lpi_config.specs.Conf.{Conf as ConfInHand}
+use Rattle.lpi_pending.specs.InHand.{RedistParts, conf_in, pend_in}
+use Rattle.lpi_pending.specs.Pend.{Pend as PendInHand}
 use Rattle.owned_parts.specs.Owned.{conf_or, pend_or, redistributor_in, redistributors_in, translator_of, translators_of, HasLpisOfConf, HasLpisOfPend}
 use Rattle.owned_parts.specs.RedistSets.{is_in}
+use Rattle.owned_parts.specs.declared.redist_set.RedistSet.{RedistSet}
 use Rattle.owned_parts.specs.declared.parts.Translator.{Translator as InHand}
 use Rattle.its_steps.specs.Calls as calls
 use Rattle.its_steps.specs.Contents.{Content, Held, Mem, Conf, Pend}
@@ -34,13 +35,13 @@ use Rattle.its_steps.specs.MayCommit.{IsRight}
 use Rattle.its_steps.specs.Parts.{Setup, HasStamps, IsOfMachine, translator_count, vcpu_count}
 use Rattle.its_steps.specs.World.{View, out, loaded}
 use Rattle.its_turns.specs.Told.{IsLone, Looks, IsLastOrLater}
-use Rattle.held_parts.specs.Redists.{at_place, held_if_in, row_of, AreWanted, conf_held, confs_held, AreNoConfs, HoldsNoConf, IsConfIn}
-use Rattle.held_parts.specs.Redists.{pend_held, pends_held, AreNoPends, HoldsNoPend, IsPendIn}
+use Rattle.held_parts.specs.Redists.{at_place, held_if_in, row_of, AreWanted, conf_held, confs_held, HoldsNoConf, IsConfIn}
+use Rattle.held_parts.specs.Redists.{pend_held, pends_held, HoldsNoPend, IsPendIn}
 use Rattle.held_parts.specs.Taking.{LostNone, TakesOnly}
-use Rattle.held_parts.specs.Wholes.{second_of, translators_in, state_of_whole, IsWholeOf, maps_held, second_held, held_whole, IsNoShard, TakesWhole}
+use Rattle.held_parts.specs.Wholes.{second_of, translators_in, redists_in, state_of_whole, IsWholeOf, maps_held, second_held, held_whole, IsNoShard, TakesWhole}
 use Rattle.held_parts.specs.declared.whole.Whole.{Whole}
 use Rattle.held_parts.proofs.Going.{got_none}
-use Rattle.held_parts.proofs.InRows.{row_each, row_short, row_first, row_none}
+use Rattle.held_parts.proofs.InRows.{row_each, row_first, row_none}
 use Rattle.held_parts.proofs.RedistRows.{conf_kind, parts_lack}
 use Rattle.held_parts.proofs.Lists.{same_lists, one_is, two_are, got_at}
 
@@ -52,7 +53,8 @@ pub record AllOf (T : Type 0) (has_lpis : T → Type 0) (s : Setup) (places : Li
   pub others : (v : ℕ) → vcpu_count s ≤ v → at_place places v ≡ None
 
 -- they are those of the set with all
-module _ {T : Type 0} (has_lpis : T → Type 0) (s : Setup) (set : ℕ) (all : (v : ℕ) → is_in set v ≡ nat_lt v (vcpu_count s)) (places : List (Option T)) where
+module _ {T : Type 0} (has_lpis : T → Type 0) (s : Setup) (set : RedistSet) (all : (v : ℕ) → is_in set v ≡ nat_lt v (vcpu_count s))
+    (places : List (Option T)) where
   there : (o : Option T) → is_some o ≡ true → (x : T) × (o ≡ Some x)
   there None is = absurd cc
   there (Some x) is = (x, refl)
@@ -97,7 +99,8 @@ abbrev pub AllPends : Setup → RedistParts → Type 0
 AllPends s rs = AllOf PendInHand (HasLpisOfPend s.start.layout.shape) s rs.pends
 
 -- a redistributor that has both
-pub both_parts : (o : Option Redistributor) (c : ConfState) (p : PendState) → option_map conf_of o ≡ Some c → option_map pend_of o ≡ Some p → o ≡ Some (joined c p)
+pub both_parts : (o : Option Redistributor) (c : ConfState) (p : PendState) → option_map conf_of o ≡ Some c → option_map pend_of o ≡ Some p
+    → o ≡ Some (joined c p)
 both_parts None c p e f = absurd cc
 both_parts (Some r) c p e f = let a = same_Some (conf_of r) c e in let b = same_Some (pend_of r) p f in λ d. Some (joined (a d) (b d))
 
@@ -166,24 +169,25 @@ mem_held x = out part.Mem (Mem x.memory.value.memory x.memory.value.track)
 abbrev rest_held : Whole → List Held
 rest_held x = mem_held x ∷ second_held (second_of x) (maps_held 0 x.first.value ∷ [])
 
-module _ (s : Setup) (x : Whole) (confs : AllConfs s x.redists) (pends : AllPends s x.redists) (few : vcpu_count s ≤ 16) where
+module _ (s : Setup) (x : Whole) (confs : AllConfs s (redists_in x)) (pends : AllPends s (redists_in x)) where
   abbrev rs : RedistParts
-  rs = x.redists
+  rs = redists_in x
 
   -- what is held is right in a state, so it is that state's
-  pub state_is : length (translators_in x) ≡ translator_count s → (word : Word) (u : Plain) → IsOfMachine s u → AllByRecursion (IsRight s word u) (held_whole x)
-      → state_of_whole s.start.layout x ≡ u
+  pub state_is : length (translators_in x) ≡ translator_count s → (word : Word) (u : Plain) → IsOfMachine s u
+      → AllByRecursion (IsRight s word u) (held_whole s x) → state_of_whole s.start.layout x ≡ u
   state_is count word u m right =
-      let upper = row_each (row_of pend_held rs.pends) (confs_held rs 16 (rest_held x)) (IsRight s word u) 16 right in
-      let each = row_each (row_of conf_held rs.confs) (rest_held x) (IsRight s word u) 16 upper.1 in
+      let n = vcpu_count s in
+      let upper = row_each (row_of pend_held rs.pends) (confs_held rs n (rest_held x)) (IsRight s word u) n right in
+      let each = row_each (row_of conf_held rs.confs) (rest_held x) (IsRight s word u) n upper.1 in
       let memory : x.memory.value.memory ≡ u.memory = sym each.1.0.0 in
       let track : x.memory.value.track ≡ u.track = sym each.1.0.1 in
       let translators = translators_are (second_of x) x.first.value s word u (count ∙ m.translators) each.1.1 in
       let many : length u.redistributors ≡ vcpu_count s = m.sound.vcpus ∙ ap (λ (l : Layout). l.shape.vcpus) (sym m.layout) in
       let redists : redistributors_in (vcpu_count s) rs ≡ u.redistributors = firsts_are s rs confs pends u.redistributors many
       (λ v lt. both_parts (slice_get u.redistributors v) (conf_or (conf_in rs v)) (pend_or (pend_in rs v))
-      (each.0 v (out (conf v) (Conf (conf_or (conf_in rs v)))) (omega (arith, lt, few)) (conf_at s rs confs pends v lt))
-      (upper.0 v (out (pend v) (Pend (pend_or (pend_in rs v)))) (omega (arith, lt, few)) (pend_at s rs confs pends v lt))) in
+      (each.0 v (out (conf v) (Conf (conf_or (conf_in rs v)))) lt (conf_at s rs confs pends v lt))
+      (upper.0 v (out (pend v) (Pend (pend_or (pend_in rs v)))) lt (pend_at s rs confs pends v lt))) in
       let layout = m.layout in
       λ d. record { layout = layout d; translators = translators d; redistributors = redists d; memory = memory d; track = track d }
 
@@ -212,25 +216,13 @@ module _ (s : Setup) (x : Whole) (confs : AllConfs s x.redists) (pends : AllPend
       row_first (row_of pend_held rs.pends) rest (suc k) k (out (pend k) (Pend (pend_or (pend_in rs k)))) refl (pend_at s rs confs pends k lt)
       ∙ (λ d. out (pend k) (Pend (pend_of (sym now d))) ∷ others d)
 
-  all_of_them : vcpu_count s + (16 - vcpu_count s) ≡ 16
-  all_of_them = omega (arith, few)
-
-  short_confs : (rest : List Held) → confs_held rs 16 rest ≡ confs_held rs (vcpu_count s) rest
-  short_confs rest = ap (λ (k : ℕ). confs_held rs k rest) (sym all_of_them)
-      ∙ row_short (row_of conf_held rs.confs) rest (vcpu_count s) (16 - vcpu_count s) (λ k le. ap (held_if_in conf_held k) (confs.others k le))
-
-  short_pends : (rest : List Held) → pends_held rs 16 rest ≡ pends_held rs (vcpu_count s) rest
-  short_pends rest = ap (λ (k : ℕ). pends_held rs k rest) (sym all_of_them)
-      ∙ row_short (row_of pend_held rs.pends) rest (vcpu_count s) (16 - vcpu_count s) (λ k le. ap (held_if_in pend_held k) (pends.others k le))
-
-  pub held_is : held_whole x ≡ calls.whole_held (state_of_whole s.start.layout x)
+  pub held_is : held_whole s x ≡ calls.whole_held (state_of_whole s.start.layout x)
   held_is =
       let u : Plain = state_of_whole s.start.layout x in
       let long : vcpu_count s ≡ length u.redistributors = sym (firsts_length s rs confs pends) in
-      short_pends (confs_held rs 16 (rest_held x))
-      ∙ (pends_are u refl (vcpu_count s) (confs_held rs 16 (rest_held x)) (omega arith)
-      ∙ (ap (calls.pends_held u (vcpu_count s)) (short_confs (rest_held x) ∙ confs_are u refl (vcpu_count s) (rest_held x) (omega arith))
-      ∙ (λ d. calls.pends_held u (long d) (calls.confs_held u (long d) (mem_held x ∷ maps_are (second_of x) x.first.value u refl d)))))
+      pends_are u refl (vcpu_count s) (confs_held rs (vcpu_count s) (rest_held x)) (omega arith)
+      ∙ (ap (calls.pends_held u (vcpu_count s)) (confs_are u refl (vcpu_count s) (rest_held x) (omega arith))
+      ∙ (λ d. calls.pends_held u (long d) (calls.confs_held u (long d) (mem_held x ∷ maps_are (second_of x) x.first.value u refl d))))
 
 -- ---- a pass that took all of them
 
@@ -276,32 +268,20 @@ pub confs_free : (o : Option InHand) (first : InHand) (c : Content) (held : List
 confs_free o first c held e = subst HoldsNoConf (sym e) (no_conf o first c)
 
 -- nor is a configuration what is pending
-pub pends_free : (o : Option InHand) (first : InHand) (c : Content) (redists : RedistParts) (before held : List Held)
-    → before ≡ out part.Mem c ∷ second_held o (maps_held 0 first ∷ []) → held ≡ confs_held redists 16 before → HoldsNoPend held
-pends_free o first c redists before held e f =
+pub pends_free : (o : Option InHand) (first : InHand) (c : Content) (redists : RedistParts) (n : ℕ) (before held : List Held)
+    → before ≡ out part.Mem c ∷ second_held o (maps_held 0 first ∷ []) → held ≡ confs_held redists n before → HoldsNoPend held
+pends_free o first c redists n before held e f =
     let none : HoldsNoPend before = subst HoldsNoPend (sym e) (no_pend o first c) in
-    subst HoldsNoPend (sym f) (λ vcpu. parts_lack conf_held conf conf_kind redists.confs before 16 (part.Pend vcpu) (λ k e. cc) (none vcpu))
+    subst HoldsNoPend (sym f) (λ vcpu. parts_lack conf_held conf conf_kind redists.confs before n (part.Pend vcpu) (λ k e. cc) (none vcpu))
 
-none_in : {T : Type 0} (n v : ℕ) → at_place {T = T} (replicate n None) v ≡ None
-none_in zero v = refl
-none_in (suc n) zero = refl
-none_in (suc n) (suc v) = none_in n v
-
--- sixteen empty places
-pub no_confs_at_first : (redists : RedistParts) → redists ≡ no_redists → AreNoConfs redists
-no_confs_at_first redists is v = ap (λ (r : RedistParts). at_place r.confs v) is ∙ none_in 16 v
-
-pub no_pends_at_first : (redists : RedistParts) → redists ≡ no_redists → AreNoPends redists
-no_pends_at_first redists is v = ap (λ (r : RedistParts). at_place r.pends v) is ∙ none_in 16 v
-
-pub conf_no_shard : (set : ℕ) (p : Part) → IsConfIn set p → IsNoShard p
+pub conf_no_shard : (set : RedistSet) (p : Part) → IsConfIn set p → IsNoShard p
 conf_no_shard set (part.Conf v) is = tt
 conf_no_shard set (part.Pend v) is = absurd is
 conf_no_shard set (part.Maps i) is = absurd is
 conf_no_shard set part.Mem is = absurd is
 conf_no_shard set (part.Shard its n) is = absurd is
 
-pub pend_no_shard : (set : ℕ) (p : Part) → IsPendIn set p → IsNoShard p
+pub pend_no_shard : (set : RedistSet) (p : Part) → IsPendIn set p → IsNoShard p
 pend_no_shard set (part.Pend v) is = tt
 pend_no_shard set (part.Conf v) is = absurd is
 pend_no_shard set (part.Maps i) is = absurd is
@@ -327,27 +307,29 @@ mapped : (o : Option (Box InHand Global)) → is_some (option_map (λ (b : Box I
 mapped None = refl
 mapped (Some b) = refl
 
-pub is_whole : (s : Setup) (x : Whole) → HasStamps s → AllConfs s x.redists → AllPends s x.redists → is_some x.second ≡ (translator_count s == 2)
-    → IsWholeOf s x
-is_whole s x stamps confs pends count = record {
+pub is_whole : (s : Setup) (x : Whole) → HasStamps s → AllConfs s (redists_in x) → AllPends s (redists_in x) → is_some x.second ≡ (translator_count s == 2)
+    → length (redists_in x).confs ≡ vcpu_count s → length (redists_in x).pends ≡ vcpu_count s → IsWholeOf s x
+is_whole s x stamps confs pends count conf_room pend_room = record {
   translators = has_count (second_of x) x.first.value (translator_count s) (one_or_two s stamps) (mapped x.second ∙ count);
   all_in_hand = λ v lt. (confs.first v lt, pends.first v lt);
   no_others = λ v le. record { conf = confs.others v le; pend = pends.others v le };
+  conf_room = conf_room;
+  pend_room = pend_room;
 }
 
 -- there is a second translator where there are two
 pub whole_second : (s : Setup) (x : Whole) → IsWholeOf s x → is_some x.second ≡ (translator_count s == 2)
 whole_second s x is = sym (mapped x.second) ∙ second_is (second_of x) x.first.value (translator_count s) is.translators
 
-pub whole_confs : (s : Setup) (x : Whole) → IsWholeOf s x → AllConfs s x.redists
+pub whole_confs : (s : Setup) (x : Whole) → IsWholeOf s x → AllConfs s (redists_in x)
 whole_confs s x is = record { first = λ v lt. (is.all_in_hand v lt).0; others = λ v le. (is.no_others v le).conf }
 
-pub whole_pends : (s : Setup) (x : Whole) → IsWholeOf s x → AllPends s x.redists
+pub whole_pends : (s : Setup) (x : Whole) → IsWholeOf s x → AllPends s (redists_in x)
 whole_pends s x is = record { first = λ v lt. (is.all_in_hand v lt).1; others = λ v le. (is.no_others v le).pend }
 
-module _ (s : Setup) (v w y : View) (x : Whole) (word : Word) (own : v.setup ≡ s) (few : vcpu_count s ≤ 16) (takes : TakesOnly IsNoShard v w)
-    (held : w.held ≡ held_whole x) (looks : Looks w word y) (later : IsLastOrLater w word) (is : IsWholeOf s x) where
-  looked : y ≡ record v { seen = y.seen; last = word; held = held_whole x; cache = w.cache; tries = w.tries }
+module _ (s : Setup) (v w y : View) (x : Whole) (word : Word) (own : v.setup ≡ s) (takes : TakesOnly IsNoShard v w)
+    (held : w.held ≡ held_whole s x) (looks : Looks w word y) (later : IsLastOrLater w word) (is : IsWholeOf s x) where
+  looked : y ≡ record v { seen = y.seen; last = word; held = held_whole s x; cache = w.cache; tries = w.tries }
   looked = looks.same ∙ (ap (λ (z : View). loaded z word y.seen) takes.same
       ∙ ap (λ (h : List Held). record v { seen = y.seen; last = word; held = h; cache = w.cache; tries = w.tries }) held)
 
@@ -360,13 +342,13 @@ module _ (s : Setup) (v w y : View) (x : Whole) (word : Word) (own : v.setup ≡
   machine : IsOfMachine s (after s.start y.seen)
   machine = subst (λ (z : Setup). IsOfMachine z (after z.start y.seen)) now looks.machine
 
-  right : AllByRecursion (IsRight s word (after s.start y.seen)) (held_whole x)
+  right : AllByRecursion (IsRight s word (after s.start y.seen)) (held_whole s x)
   right = subst (λ (l : List Held). AllByRecursion (IsRight s word (after s.start y.seen)) l) held
       (subst (λ (z : Setup). AllByRecursion (IsRight z word (after z.start y.seen)) w.held) now looks.right)
 
   pub takes_whole : TakesWhole s v x y
   takes_whole = record {
-    same = subst (λ (z : View). z ≡ record v { seen = z.seen; last = z.last; held = held_whole x; cache = z.cache; tries = z.tries }) (sym looked) refl;
+    same = subst (λ (z : View). z ≡ record v { seen = z.seen; last = z.last; held = held_whole s x; cache = z.cache; tries = z.tries }) (sym looked) refl;
     longer = subst (λ (l : List Entry). IsPrefix l y.seen) (ap (λ (z : View). z.seen) takes.same) looks.longer;
     got = got_none IsNoShard v w y takes.got (ap (λ (z : View). z.tries) looks.same);
     still = λ lone. (
@@ -376,5 +358,5 @@ module _ (s : Setup) (v w y : View) (x : Whole) (word : Word) (own : v.setup ≡
     alone = λ lone. subst (λ (z : View). LostNone v z) (sym looked) (takes.alone lone);
     machine = machine;
     whole = is;
-    state = state_is s x (whole_confs s x is) (whole_pends s x is) few is.translators word (after s.start y.seen) machine right;
+    state = state_is s x (whole_confs s x is) (whole_pends s x is) is.translators word (after s.start y.seen) machine right;
   }

@@ -4,10 +4,11 @@ use Rattle.its_types.specs.declared.ids.Vcpu.{Vcpu}
 use Rattle.its_types.specs.declared.machine.Part.{Part}
 use Rattle.its_types.specs.declared.machine.Part.TheVariants as part
 use Rattle.lpi_config.specs.Conf.{conf_state}
-use Rattle.lpi_config.specs.declared.conf.Conf.{Conf as ConfInHand}
+use Rattle.lpi_config.specs.Conf.{Conf as ConfInHand}
 use Rattle.lpi_pending.specs.InHand.{RedistParts, pend_state, HasLpisOfConf, HasLpisOfPend}
-use Rattle.lpi_pending.specs.declared.pend.Pend.{Pend as PendInHand}
+use Rattle.lpi_pending.specs.Pend.{Pend as PendInHand}
 use Rattle.owned_parts.specs.RedistSets.{is_in}
+use Rattle.owned_parts.specs.declared.redist_set.RedistSet.{RedistSet}
 use Rattle.its_plain.specs.Parts.{conf, pend}
 use Rattle.its_steps.specs.Contents.{Held, Conf, Pend}
 use Rattle.its_steps.specs.Good.{Holds}
@@ -34,7 +35,7 @@ abbrev pub AreNone : {T : Type 0} → List (Option T) → Type 0
 AreNone places = (vcpu : ℕ) → at_place places vcpu ≡ None
 
 -- those of the set that the machine has are in hand, and no other; they have the machine's LPIs
-pub record AreWanted (T : Type 0) (has_lpis : T → Type 0) (s : Setup) (set : ℕ) (places : List (Option T)) : Type 0 where
+pub record AreWanted (T : Type 0) (has_lpis : T → Type 0) (s : Setup) (set : RedistSet) (places : List (Option T)) : Type 0 where
   pub hand : (vcpu : ℕ) → is_some (at_place places vcpu) ≡ (is_in set vcpu && nat_lt vcpu (vcpu_count s))
   pub lpis : (vcpu : ℕ) (x : T) → at_place places vcpu ≡ Some x → has_lpis x
 
@@ -50,7 +51,7 @@ confs_held redists n others = in_row (row_of conf_held redists.confs) n others
 abbrev pub AreNoConfs : RedistParts → Type 0
 AreNoConfs redists = AreNone redists.confs
 
-abbrev pub AreConfsOfSet : Setup → ℕ → RedistParts → Type 0
+abbrev pub AreConfsOfSet : Setup → RedistSet → RedistParts → Type 0
 AreConfsOfSet s set redists = AreWanted ConfInHand (HasLpisOfConf s.start.layout.shape) s set redists.confs
 
 -- none is held
@@ -58,7 +59,7 @@ abbrev pub HoldsNoConf : List Held → Type 0
 HoldsNoConf held = (vcpu : Vcpu) → ¬ Holds (part.Conf vcpu) held
 
 -- the part is the configuration of one of the set
-abbrev pub IsConfIn : ℕ → Part → Type 0
+abbrev pub IsConfIn : RedistSet → Part → Type 0
 IsConfIn set (part.Conf vcpu) = is_in set vcpu.0 ≡ true
 IsConfIn set p = ⊥
 
@@ -73,12 +74,12 @@ pends_held redists n others = in_row (row_of pend_held redists.pends) n others
 abbrev pub AreNoPends : RedistParts → Type 0
 AreNoPends redists = AreNone redists.pends
 
-abbrev pub ArePendsOfSet : Setup → ℕ → RedistParts → Type 0
+abbrev pub ArePendsOfSet : Setup → RedistSet → RedistParts → Type 0
 ArePendsOfSet s set redists = AreWanted PendInHand (HasLpisOfPend s.start.layout.shape) s set redists.pends
 
 abbrev pub HoldsNoPend : List Held → Type 0
 HoldsNoPend held = (vcpu : Vcpu) → ¬ Holds (part.Pend vcpu) held
 
-abbrev pub IsPendIn : ℕ → Part → Type 0
+abbrev pub IsPendIn : RedistSet → Part → Type 0
 IsPendIn set (part.Pend vcpu) = is_in set vcpu.0 ≡ true
 IsPendIn set p = ⊥

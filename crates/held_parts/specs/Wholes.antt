@@ -7,6 +7,7 @@ use Rattle.its_types.specs.declared.machine.Part.TheVariants as part
 use Rattle.its_plain.specs.History.{after}
 use Rattle.its_plain.specs.Plain.{Plain, Translator}
 use Rattle.its_plain.specs.declared.layout.Layout.{Layout}
+use Rattle.lpi_pending.specs.InHand.{RedistParts}
 use Rattle.owned_parts.specs.Owned.{AreAllInHand, translator_of, translators_of, state_of}
 use Rattle.owned_parts.specs.Places.{AreNotInHand}
 use Rattle.owned_parts.specs.declared.parts.Translator.{Translator as InHand}
@@ -27,15 +28,21 @@ second_of x = option_map (λ b. b.value) x.second
 abbrev pub translators_in : Whole → List Translator
 translators_in x = translators_of x.first.value (second_of x)
 
+abbrev pub redists_in : Whole → RedistParts
+redists_in x = x.memory.value.redists
+
 -- the state that they are the parts of
 abbrev pub state_of_whole : Layout → Whole → Plain
-state_of_whole l x = state_of l (translators_in x) x.memory.value.memory x.memory.value.track x.redists
+state_of_whole l x = state_of l (translators_in x) x.memory.value.memory x.memory.value.track (redists_in x)
 
 -- these are all that a machine has: its translators, and both parts of the redistributors of its virtual processors
 pub record IsWholeOf (s : Setup) (x : Whole) : Type 0 where
   pub translators : length (translators_in x) ≡ translator_count s
-  pub all_in_hand : AreAllInHand s.start.layout.shape x.redists
-  pub no_others : (vcpu : ℕ) → vcpu_count s ≤ vcpu → AreNotInHand x.redists vcpu
+  pub all_in_hand : AreAllInHand s.start.layout.shape (redists_in x)
+  pub no_others : (vcpu : ℕ) → vcpu_count s ≤ vcpu → AreNotInHand (redists_in x) vcpu
+  -- with a place for each
+  pub conf_room : length (redists_in x).confs ≡ vcpu_count s
+  pub pend_room : length (redists_in x).pends ≡ vcpu_count s
 
 -- ---- as they are held
 
@@ -48,9 +55,9 @@ second_held None others = others
 second_held (Some t) others = maps_held 1 t ∷ others
 
 -- each was got after the one that follows it here
-abbrev pub held_whole : Whole → List Held
-held_whole x = pends_held x.redists 16 (confs_held x.redists 16 (out part.Mem (Mem x.memory.value.memory x.memory.value.track) ∷ second_held (second_of x)
-    (maps_held 0 x.first.value ∷ [])))
+abbrev pub held_whole : Setup → Whole → List Held
+held_whole s x = pends_held (redists_in x) (vcpu_count s) (confs_held (redists_in x) (vcpu_count s)
+    (out part.Mem (Mem x.memory.value.memory x.memory.value.track) ∷ second_held (second_of x) (maps_held 0 x.first.value ∷ [])))
 
 -- it is not a shard
 abbrev pub IsNoShard : Part → Type 0
@@ -60,7 +67,7 @@ IsNoShard p = Unit {0}
 -- All of them were taken, and then the word was read: they are the parts of the state that the history leaves which was seen.
 -- Alone nothing was added to that, and no try was lost
 pub record TakesWhole (s : Setup) (v : View) (x : Whole) (w : View) : Type 0 where
-  pub same : w ≡ record v { seen = w.seen; last = w.last; held = held_whole x; cache = w.cache; tries = w.tries }
+  pub same : w ≡ record v { seen = w.seen; last = w.last; held = held_whole s x; cache = w.cache; tries = w.tries }
   pub longer : IsPrefix v.seen w.seen
   pub got : GotOnly IsNoShard v w
   pub still : IsLone v → (w.seen ≡ v.seen) × (w.last ≡ v.last)

@@ -1,6 +1,7 @@
 //! Configurations of redistributors, taken the lowest first.
-ghost use Rattle.std.specs.Prelude.{◌≡◌, List};
+ghost use Rattle.std.specs.Prelude.{◌≡◌, List, length};
 ghost use Rattle.its_steps.specs.Contents.{Held};
+ghost use Rattle.its_steps.specs.Parts.{vcpu_count};
 ghost use Rattle.its_turns.specs.Machines.{setup, view, IsOf};
 ghost use Rattle.held_parts.specs.Redists.{confs_held, AreNoConfs, AreConfsOfSet};
 ghost use Rattle.held_parts.specs.Redists.{HoldsNoConf, IsConfIn};
@@ -8,7 +9,6 @@ ghost use Rattle.held_parts.specs.Taking.{TakesOnly, holding};
 
 use crate::getting::take_conf;
 use crate::turns::Turns;
-use crate::wanted::is_wanted;
 use its_turns::{Machine, Pass, Value, put};
 use its_types::{Part, Vcpu};
 use lpi_pending::Redists;
@@ -25,21 +25,24 @@ pub fn take_confs<T: Turns>(
 )
     requires of { IsOf machine.now pass.old }
     requires empty { AreNoConfs redists.old }
+    requires room { length redists.old.confs ≡ vcpu_count (setup machine.now) }
     requires free { HoldsNoConf (view pass.old).held }
     requires allowed { T.allowed (view pass.old) }
     ensures of { IsOf machine.now pass.new }
     ensures takes { TakesOnly (IsConfIn set) (view pass.old) (view pass.new) }
-    ensures held { (view pass.new).held ≡ confs_held redists.new 16 (view pass.old).held }
+    ensures held { (view pass.new).held ≡ confs_held redists.new (vcpu_count (setup machine.now))
+        (view pass.old).held }
     ensures hand { AreConfsOfSet (setup machine.now) set redists.new }
+    ensures room { length redists.new.confs ≡ length redists.old.confs }
     ensures pends { redists.new.pends ≡ redists.old.pends }
     ensures allowed { T.allowed (view pass.new) }
 {
     let vcpus = machine.vcpus();
-    for vcpu in 0..vcpus {
-        if is_wanted(set, vcpus, vcpu) {
-            let conf = take_conf(how, machine, pass, Vcpu(vcpu));
-            redists.place_conf(Vcpu(vcpu), conf);
-        }
+    let mut next = 0;
+    while let Some(vcpu) = set.next(next, vcpus) {
+        let conf = take_conf(how, machine, pass, Vcpu(vcpu));
+        redists.place_conf(Vcpu(vcpu), conf);
+        next = vcpu + 1;
     }
 }
 
@@ -48,20 +51,19 @@ pub fn put_confs(machine: &Machine, pass: &mut Pass, set: RedistSet, redists: &m
     requires of { IsOf machine.now pass.old }
     requires hand { AreConfsOfSet (setup machine.now) set redists.old }
     requires held { (before : List Held) ×
-        ((view pass.old).held ≡ confs_held redists.old 16 before) }
+        ((view pass.old).held ≡ confs_held redists.old (vcpu_count (setup machine.now)) before) }
     ensures of { IsOf machine.now pass.new }
     ensures empty { AreNoConfs redists.new }
+    ensures room { length redists.new.confs ≡ length redists.old.confs }
     ensures pends { redists.new.pends ≡ redists.old.pends }
     ensures home { (before : List Held) →
-        (view pass.old).held ≡ confs_held redists.old 16 before →
+        (view pass.old).held ≡ confs_held redists.old (vcpu_count (setup machine.now)) before →
         view pass.new ≡ holding (view pass.old) before }
 {
-    let vcpus = machine.vcpus();
-    for k in 0..vcpus {
-        let vcpu = vcpus - 1 - k;
-        if is_wanted(set, vcpus, vcpu) {
-            let conf = redists.take_conf(Vcpu(vcpu));
-            put(machine, pass, Part::Conf(Vcpu(vcpu)), Value::Conf(conf));
-        }
+    let mut end = machine.vcpus();
+    while let Some(vcpu) = set.last(end) {
+        let conf = redists.take_conf(Vcpu(vcpu));
+        put(machine, pass, Part::Conf(Vcpu(vcpu)), Value::Conf(conf));
+        end = vcpu;
     }
 }

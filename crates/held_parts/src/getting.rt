@@ -2,7 +2,7 @@
 ghost use Rattle.std.specs.Prelude.{◌≡◌, ◌<◌};
 ghost use Rattle.its_types.specs.declared.machine.Part.TheVariants as part;
 ghost use Rattle.lpi_config.specs.Conf.{conf_state};
-ghost use Rattle.lpi_pending.specs.InHand.{pend_state, HasLpisOfConf, HasLpisOfPend};
+ghost use Rattle.lpi_pending.specs.InHand.{pend_state, AreEmpty, HasLpisOfConf, HasLpisOfPend};
 ghost use Rattle.owned_parts.specs.Owned.{translator_of};
 ghost use Rattle.its_steps.specs.Good.{Holds};
 ghost use Rattle.its_steps.specs.Parts.{Stands, translator_count, vcpu_count};
@@ -35,7 +35,7 @@ pub fn take_maps<T: Turns>(how: &T, machine: &Machine, pass: &mut Pass, its: u8)
     }
 }
 
-/// Takes guest memory out.
+/// Takes guest memory out, with empty places for redistributors.
 pub fn take_memory<T: Turns>(how: &T, machine: &Machine, pass: &mut Pass) -> Box<GuestMemory>
     requires of { IsOf machine.now pass.old }
     requires free { ¬ Holds part.Mem (view pass.old).held }
@@ -43,6 +43,7 @@ pub fn take_memory<T: Turns>(how: &T, machine: &Machine, pass: &mut Pass) -> Box
     ensures of { IsOf machine.now pass.new }
     ensures takes { TakesInTime (view pass.old) part.Mem
         (content.Mem result.value.memory result.value.track) (view pass.new) }
+    ensures room { AreEmpty (vcpu_count (setup machine.now)) result.value.redists }
     ensures allowed { T.allowed (view pass.new) }
 {
     match how.turn(machine, pass, Part::Mem) {

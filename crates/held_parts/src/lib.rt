@@ -1,8 +1,8 @@
 //! Several parts that a pass holds at once: shards, parts of redistributors, or all parts but
 //! shards, taken in the order of their numbers, and put back in the opposite order.
 //!
-//! Contracts have up to ten clauses here: what a pass must not hold and what is allowed before, and
-//! the same of what it holds and may do afterwards.
+//! Contracts have up to twelve clauses here: what a pass must not hold and what is allowed before,
+//! and the same of what it holds and may do afterwards, and how many places there are.
 #![tactic(auto)]
 
 mod confs;

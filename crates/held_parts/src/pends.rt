@@ -1,6 +1,7 @@
 //! What is pending at redistributors, taken the lowest first.
-ghost use Rattle.std.specs.Prelude.{◌≡◌, List};
+ghost use Rattle.std.specs.Prelude.{◌≡◌, List, length};
 ghost use Rattle.its_steps.specs.Contents.{Held};
+ghost use Rattle.its_steps.specs.Parts.{vcpu_count};
 ghost use Rattle.its_turns.specs.Machines.{setup, view, IsOf};
 ghost use Rattle.held_parts.specs.Redists.{pends_held, AreNoPends, ArePendsOfSet};
 ghost use Rattle.held_parts.specs.Redists.{HoldsNoPend, IsPendIn};
@@ -8,7 +9,6 @@ ghost use Rattle.held_parts.specs.Taking.{TakesOnly, holding};
 
 use crate::getting::take_pend;
 use crate::turns::Turns;
-use crate::wanted::is_wanted;
 use its_turns::{Machine, Pass, Value, put};
 use its_types::{Part, Vcpu};
 use lpi_pending::Redists;
@@ -25,21 +25,24 @@ pub fn take_pends<T: Turns>(
 )
     requires of { IsOf machine.now pass.old }
     requires empty { AreNoPends redists.old }
+    requires room { length redists.old.pends ≡ vcpu_count (setup machine.now) }
     requires free { HoldsNoPend (view pass.old).held }
     requires allowed { T.allowed (view pass.old) }
     ensures of { IsOf machine.now pass.new }
     ensures takes { TakesOnly (IsPendIn set) (view pass.old) (view pass.new) }
-    ensures held { (view pass.new).held ≡ pends_held redists.new 16 (view pass.old).held }
+    ensures held { (view pass.new).held ≡ pends_held redists.new (vcpu_count (setup machine.now))
+        (view pass.old).held }
     ensures hand { ArePendsOfSet (setup machine.now) set redists.new }
+    ensures room { length redists.new.pends ≡ length redists.old.pends }
     ensures confs { redists.new.confs ≡ redists.old.confs }
     ensures allowed { T.allowed (view pass.new) }
 {
     let vcpus = machine.vcpus();
-    for vcpu in 0..vcpus {
-        if is_wanted(set, vcpus, vcpu) {
-            let pend = take_pend(how, machine, pass, Vcpu(vcpu));
-            redists.place_pend(Vcpu(vcpu), pend);
-        }
+    let mut next = 0;
+    while let Some(vcpu) = set.next(next, vcpus) {
+        let pend = take_pend(how, machine, pass, Vcpu(vcpu));
+        redists.place_pend(Vcpu(vcpu), pend);
+        next = vcpu + 1;
     }
 }
 
@@ -48,20 +51,19 @@ pub fn put_pends(machine: &Machine, pass: &mut Pass, set: RedistSet, redists: &m
     requires of { IsOf machine.now pass.old }
     requires hand { ArePendsOfSet (setup machine.now) set redists.old }
     requires held { (before : List Held) ×
-        ((view pass.old).held ≡ pends_held redists.old 16 before) }
+        ((view pass.old).held ≡ pends_held redists.old (vcpu_count (setup machine.now)) before) }
     ensures of { IsOf machine.now pass.new }
     ensures empty { AreNoPends redists.new }
+    ensures room { length redists.new.pends ≡ length redists.old.pends }
     ensures confs { redists.new.confs ≡ redists.old.confs }
     ensures home { (before : List Held) →
-        (view pass.old).held ≡ pends_held redists.old 16 before →
+        (view pass.old).held ≡ pends_held redists.old (vcpu_count (setup machine.now)) before →
         view pass.new ≡ holding (view pass.old) before }
 {
-    let vcpus = machine.vcpus();
-    for k in 0..vcpus {
-        let vcpu = vcpus - 1 - k;
-        if is_wanted(set, vcpus, vcpu) {
-            let pend = redists.take_pend(Vcpu(vcpu));
-            put(machine, pass, Part::Pend(Vcpu(vcpu)), Value::Pend(pend));
-        }
+    let mut end = machine.vcpus();
+    while let Some(vcpu) = set.last(end) {
+        let pend = redists.take_pend(Vcpu(vcpu));
+        put(machine, pass, Part::Pend(Vcpu(vcpu)), Value::Pend(pend));
+        end = vcpu;
     }
 }

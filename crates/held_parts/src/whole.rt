@@ -18,7 +18,6 @@ use crate::wanted::all_of;
 use its_plain::Layout;
 use its_turns::{GuestMemory, Machine, Pass, Value, look, put};
 use its_types::{Gate, Part, Point};
-use lpi_pending::Redists;
 use owned_parts::{InPlace, Translator};
 
 /// The registers and maps of all translators, guest memory, and of the redistributors of all
@@ -29,10 +28,8 @@ pub struct Whole {
     pub first: Box<Translator>,
     /// Translator 1, if there is one.
     pub second: Option<Box<Translator>>,
-    /// Guest memory.
+    /// Guest memory, with the redistributors of all virtual processors in their places.
     pub memory: Box<GuestMemory>,
-    /// Those of all virtual processors.
-    pub redists: Redists,
 }
 
 impl Whole {
@@ -45,7 +42,7 @@ impl Whole {
         ensures state { state_in_place result ≡ state_of_whole layout.now self.now }
         ensures layout { result.layout.now ≡ layout.now }
         ensures memory { result.memory.now ≡ self.now.memory.value.memory }
-        ensures redists { result.redists.now ≡ self.now.redists }
+        ensures redists { result.redists.now ≡ self.now.memory.value.redists }
     {
         InPlace {
             layout,
@@ -56,7 +53,7 @@ impl Whole {
             },
             memory: &self.memory.memory,
             track: self.memory.track.as_ref(),
-            redists: &self.redists,
+            redists: &self.memory.redists,
         }
     }
 }
@@ -71,20 +68,19 @@ pub fn take_whole<T: Turns, G: Gate>(how: &T, machine: &Machine, pass: &mut Pass
     ensures of { IsOf machine.now pass.new }
     ensures takes { TakesWhole (setup machine.now) (view pass.old) result (view pass.new) }
 {
-    let mut redists = Redists::new();
     let first = take_maps(how, machine, pass, 0);
     let second = take_second(how, machine, pass);
     gate.at(pass.number(), Point::MapsTaken);
-    let memory = take_memory(how, machine, pass);
+    let mut memory = take_memory(how, machine, pass);
     let all = all_of(machine.vcpus());
-    take_confs(how, machine, pass, all, &mut redists);
-    take_pends(how, machine, pass, all, &mut redists);
+    let redists = &mut memory.redists;
+    take_confs(how, machine, pass, all, redists);
+    take_pends(how, machine, pass, all, redists);
     look(machine, pass);
     Whole {
         first,
         second,
         memory,
-        redists,
     }
 }
 
@@ -109,7 +105,7 @@ fn take_second<T: Turns>(how: &T, machine: &Machine, pass: &mut Pass) -> Option<
 /// Puts all of them back, what was taken last first.
 pub fn put_whole(machine: &Machine, pass: &mut Pass, whole: Whole)
     requires of { IsOf machine.now pass.old }
-    requires held { (view pass.old).held ≡ held_whole whole }
+    requires held { (view pass.old).held ≡ held_whole (setup machine.now) whole }
     requires whole { IsWholeOf (setup machine.now) whole }
     ensures of { IsOf machine.now pass.new }
     ensures home { view pass.new ≡ holding (view pass.old) [] }
@@ -117,12 +113,12 @@ pub fn put_whole(machine: &Machine, pass: &mut Pass, whole: Whole)
     let Whole {
         first,
         second,
-        memory,
-        mut redists,
+        mut memory,
     } = whole;
     let all = all_of(machine.vcpus());
-    put_pends(machine, pass, all, &mut redists);
-    put_confs(machine, pass, all, &mut redists);
+    let redists = &mut memory.redists;
+    put_pends(machine, pass, all, redists);
+    put_confs(machine, pass, all, redists);
     put(machine, pass, Part::Mem, Value::Mem(memory));
     put_second(machine, pass, second);
     put(machine, pass, Part::Maps(0), Value::Maps(first));

@@ -1,5 +1,5 @@
 -- The parts that are left of a machine.
-use Rattle.std.proofs.Common.{◌≡◌, ℕ, zero, suc, ◌<◌, ◌≤◌, List, length, Option, Some, None, Ok, Err, refl, ap, sym, ◌∙◌, subst, arith}
+use Rattle.std.proofs.Common.{◌≡◌, ℕ, ◌<◌, List, Option, Some, None, Ok, Err, refl, ap, sym, ◌∙◌, subst, arith}
 use Rattle.std.specs.Prelude.{slice_get}
 use Rattle.dirty_log.specs.declared.tracked.Tracked.{Tracked}
 use Rattle.its_plain.specs.History.{after}
@@ -11,9 +11,9 @@ use Rattle.its_plain.specs.declared.call.Entry.{Entry}
 use Rattle.its_plain.specs.declared.fault.SaveError.{SaveError}
 use Rattle.its_plain.specs.declared.fault.SaveError.TheVariants as errors
 use Rattle.its_plain.specs.declared.layout.Layout.{Layout}
-use Rattle.lpi_config.specs.declared.conf.Conf.{Conf as ConfInHand}
+use Rattle.lpi_config.specs.Conf.{Conf as ConfInHand}
 use Rattle.lpi_pending.specs.InHand.{RedistParts, conf_in, pend_in}
-use Rattle.lpi_pending.specs.declared.pend.Pend.{Pend as PendInHand}
+use Rattle.lpi_pending.specs.Pend.{Pend as PendInHand}
 use Rattle.owned_parts.specs.Owned.{AreAllInHand, HasLpisOfConf, HasLpisOfPend, conf_or, pend_or, redistributors_in, state_of_parts}
 use Rattle.owned_machine.specs.Whole.{IsMachine, GoesOn}
 use Rattle.table_save.specs.Checked.{Answers}

@@ -1,7 +1,6 @@
 -- A save while other passes go on.
-use Rattle.std.proofs.Common.{◌≡◌, ◌<◌, ◌≤◌, ℕ, List, [], Option, None, Result, Ok, Err, refl, ap, sym, ◌∙◌, subst, length}
+use Rattle.std.proofs.Common.{◌≡◌, ◌<◌, ◌≤◌, ℕ, List, [], Result, Ok, Err, refl, ap, sym, ◌∙◌, subst, length}
 use Rattle.std.specs.Option.{option_map}
-use mathlib.Core.List.{IsPrefix}
 use Rattle.guest_windows.specs.Drafts.{Laid}
 use Rattle.its_types.specs.declared.machine.Word.{Word}
 use Rattle.its_plain.specs.Answer.{save_reply, save_left}
@@ -9,7 +8,6 @@ use Rattle.its_plain.specs.History.{after}
 use Rattle.its_plain.specs.Plain.{Plain}
 use Rattle.its_plain.specs.Regions.{savable}
 use Rattle.its_plain.specs.declared.call.Call.TheVariants as call
-use Rattle.its_plain.specs.declared.call.Entry.{Entry}
 use Rattle.its_plain.specs.declared.fault.SaveFault.{SaveFault}
 use Rattle.its_plain.specs.declared.layout.Layout.{Layout}
 use Rattle.its_steps.specs.Calls.{staying, whole_held, MayLeave}
@@ -30,11 +28,11 @@ use Rattle.lpi_pending.specs.InHand.{RedistParts}
 use Rattle.owned_parts.specs.Owned.{AreAllInHand, state_of, translators_of}
 use Rattle.owned_parts.specs.Places.{AreNotInHand}
 use Rattle.held_parts.specs.Taking.{holding}
-use Rattle.held_parts.specs.Wholes.{state_of_whole, held_whole, IsWholeOf, TakesWhole}
+use Rattle.held_parts.specs.Wholes.{redists_in, state_of_whole, held_whole, IsWholeOf, TakesWhole}
 use Rattle.held_parts.specs.declared.whole.Whole.{Whole}
 use Rattle.held_parts.proofs.Wholes.{whole_confs, whole_pends, held_is}
 use Rattle.its_migrate.specs.Saving.{LeavesMemory, FoundSpent, Waits, answered, marked, memory_or, track_or}
-use Rattle.its_migrate.proofs.Taken.{taken_state, few_vcpus, holds_all}
+use Rattle.its_migrate.proofs.Taken.{taken_state, holds_all}
 
 abbrev Answer : Type 0
 Answer = Result (Unit {0}) SaveFault
@@ -55,7 +53,7 @@ left_found u (Err fault) h = ap (λ (a : Answer). save_left u a) (sym h)
 pub record IsReplaced (u : Plain) (r : Found) (x y : Whole) : Type 0 where
   pub first : y.first ≡ x.first
   pub second : y.second ≡ x.second
-  pub redists : y.redists ≡ x.redists
+  pub redists : redists_in y ≡ redists_in x
   pub memory : y.memory.value.memory ≡ memory_or x.memory.value.memory r
   pub track : y.memory.value.track ≡ track_or u r
 
@@ -98,6 +96,8 @@ module _ (s : Setup) (v w : View) (x : Whole) (taken : TakesWhole s v x w) (l : 
         translators = (λ d. length (translators_of (is.first d).value (option_map (λ b. b.value) (is.second d)))) ∙ taken.whole.translators;
         all_in_hand = subst (λ (rs : RedistParts). AreAllInHand s.start.layout.shape rs) (sym is.redists) taken.whole.all_in_hand;
         no_others = subst (λ (rs : RedistParts). (k : ℕ) → vcpu_count s ≤ k → AreNotInHand rs k) (sym is.redists) taken.whole.no_others;
+        conf_room = ap (λ (rs : RedistParts). length rs.confs) is.redists ∙ taken.whole.conf_room;
+        pend_room = ap (λ (rs : RedistParts). length rs.pends) is.redists ∙ taken.whole.pend_room;
       }
 
       replaced_state : state_of_whole s.start.layout y ≡ save_left u (savable u)
@@ -109,12 +109,11 @@ module _ (s : Setup) (v w : View) (x : Whole) (taken : TakesWhole s v x w) (l : 
 
       -- all that is owed is in hand
       pub save_owes : w.setup ≡ s → (p : View) → Waits w p → (z : Word) (q : View) → Makes p (staying z call.Save (save_reply (answered found)) Keep) q
-          → q.held ≡ held_whole y
+          → q.held ≡ held_whole s y
       save_owes own p waits z q made =
           owes_here s call.Save (save_reply (answered found)) Keep (whole_held u) (λ _. left_held) leaves p
           (waits.held ∙ holds_all s v w x taken l same) (ap (λ (k : View). k.setup) waits.on.same ∙ own) z q made
-          ∙ (ap (λ (k : Plain). whole_held k) (sym replaced_state) ∙ sym (held_is s y (whole_confs s y replaced_whole) (whole_pends s y replaced_whole)
-          (few_vcpus s v w x taken l same)))
+          ∙ (ap (λ (k : Plain). whole_held k) (sym replaced_state) ∙ sym (held_is s y (whole_confs s y replaced_whole) (whole_pends s y replaced_whole)))
 
   -- ---- what the pass knows
 

@@ -1,5 +1,5 @@
 -- What is known once all parts but shards were taken.
-use Rattle.std.proofs.Common.{◌≡◌, ◌≤◌, ℕ, List, [], Option, Some, None, refl, ap, sym, ◌∙◌, subst, arith}
+use Rattle.std.proofs.Common.{◌≡◌, ◌≤◌, ℕ, List, [], Option, Some, None, refl, ap, sym, ◌∙◌, subst}
 use Rattle.std.specs.Option.{option_map}
 use Rattle.its_plain.specs.History.{after}
 use Rattle.its_plain.specs.Plain.{Plain}
@@ -15,14 +15,14 @@ use Rattle.owned_parts.specs.declared.in_place.TranslatorRef.{TranslatorRef}
 use Rattle.owned_machine.specs.Placed.{parts_in, translator_in}
 use Rattle.owned_machine.specs.Whole.{IsMachine, AreNotInHand}
 use Rattle.its_steps.specs.Calls.{whole_held}
-use Rattle.its_steps.specs.Parts.{Setup, IsOfMachine, vcpu_count}
+use Rattle.its_steps.specs.Parts.{Setup, IsOfMachine}
 use Rattle.its_steps.specs.World.{View}
 use Rattle.its_turns.specs.Machines.{setup, view}
 use Rattle.its_turns.specs.Told.{IsLone}
 use Rattle.its_turns.specs.declared.machine.Machine.{Machine}
 use Rattle.its_turns.specs.declared.machine.Pass.{Pass}
 use Rattle.held_parts.specs.Taking.{holding}
-use Rattle.held_parts.specs.Wholes.{state_of_whole, TakesWhole}
+use Rattle.held_parts.specs.Wholes.{redists_in, state_of_whole, TakesWhole}
 use Rattle.held_parts.specs.declared.whole.Whole.{Whole}
 use Rattle.held_parts.proofs.Wholes.{whole_confs, whole_pends, held_is}
 use Rattle.its_migrate.specs.Resting.{Rests, resting}
@@ -73,22 +73,19 @@ module _ (s : Setup) (v w : View) (x : Whole) (taken : TakesWhole s v x w) (l : 
   pub taken_sound : IsSound (state_of_whole l x)
   taken_sound = subst IsSound (sym taken_state) taken.machine.sound
 
-  pub taken_hand : AreAllInHand l.shape x.redists
-  taken_hand = subst (λ (k : Layout). AreAllInHand k.shape x.redists) (sym same) taken.whole.all_in_hand
+  pub taken_hand : AreAllInHand l.shape (redists_in x)
+  taken_hand = subst (λ (k : Layout). AreAllInHand k.shape (redists_in x)) (sym same) taken.whole.all_in_hand
 
-  pub taken_others : HasNoOthers l x.redists
-  taken_others = subst (λ (k : Layout). HasNoOthers k x.redists) (sym same) taken.whole.no_others
-
-  pub few_vcpus : vcpu_count s ≤ 16
-  few_vcpus = let e = ap (λ (k : Layout). k.shape.vcpus) taken.machine.layout in omega (arith, e, taken.machine.sound.layout.shape.most_vcpus)
+  pub taken_others : HasNoOthers l (redists_in x)
+  taken_others = subst (λ (k : Layout). HasNoOthers k (redists_in x)) (sym same) taken.whole.no_others
 
   pub holds_all : w.held ≡ whole_held u
   holds_all = ap (λ (y : View). y.held) taken.same
-      ∙ (held_is s x (whole_confs s x taken.whole) (whole_pends s x taken.whole) few_vcpus ∙ ap (λ (z : Plain). whole_held z) taken.state)
+      ∙ (held_is s x (whole_confs s x taken.whole) (whole_pends s x taken.whole) ∙ ap (λ (z : Plain). whole_held z) taken.state)
 
 -- where they stand they are a machine's
 pub taken_machine : (s : Setup) (v w : View) (x : Whole) → TakesWhole s v x w → (i : InPlace) → i.layout.now ≡ s.start.layout
-    → state_in_place i ≡ state_of_whole i.layout.now x → i.redists.now ≡ x.redists → IsMachine (parts_in i)
+    → state_in_place i ≡ state_of_whole i.layout.now x → i.redists.now ≡ redists_in x → IsMachine (parts_in i)
 taken_machine s v w x taken i same state redists =
     machine_in i (after s.start w.seen) (state ∙ taken_state s v w x taken i.layout.now same) taken.machine.sound
     (subst (λ (rs : RedistParts). AreAllInHand i.layout.now.shape rs) (sym redists) (taken_hand s v w x taken i.layout.now same))

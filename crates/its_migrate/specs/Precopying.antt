@@ -14,7 +14,7 @@ use Rattle.its_steps.specs.Parts.{Setup, IsOfMachine}
 use Rattle.its_turns.specs.Machines.{setup, view, IsOf}
 use Rattle.its_turns.specs.declared.machine.Machine.{Machine}
 use Rattle.its_turns.specs.declared.machine.Pass.{Pass}
-use Rattle.held_parts.specs.Wholes.{state_of_whole}
+use Rattle.held_parts.specs.Wholes.{redists_in, state_of_whole}
 use Rattle.held_parts.specs.declared.whole.Whole.{Whole}
 use Rattle.its_migrate.specs.Resting.{Rests, WentOn, Migrates, resting}
 use Rattle.its_migrate.specs.declared.outcome.Precopy.{Precopy}
@@ -39,7 +39,7 @@ pub record AreUnpacked (l : Layout) (x : Whole) (r : Parts × Option Tracked) : 
   pub state : state_of_parts (with_track r.1 r.0) ≡ state_of_whole l x
   pub layout : r.0.layout ≡ l
   pub track : r.0.track ≡ None
-  pub redists : r.0.redists ≡ x.redists
+  pub redists : r.0.redists ≡ redists_in x
 
 -- they are of a machine with this setup, and can be saved with that memory
 pub record AreTaken (s : Setup) (r : Parts × Option Tracked) : Type 0 where

@@ -114,9 +114,13 @@ fn unpacked(layout: Layout, whole: Whole) -> (Parts, Option<Tracked>)
         first,
         second,
         memory,
-        redists,
     } = whole;
-    let GuestMemory { memory, track, .. } = Box::into_inner(memory);
+    let GuestMemory {
+        memory,
+        track,
+        redists,
+        ..
+    } = Box::into_inner(memory);
     let parts = Parts {
         layout,
         first: Box::into_inner(first),

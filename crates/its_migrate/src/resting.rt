@@ -63,7 +63,7 @@ fn pending_at(
 {
     let pend = take_pend(&AtRest, machine, root, vcpu);
     look(machine, root);
-    let lpis = pend.pending.lpis(alloc);
+    let lpis = pend.lpis(alloc);
     put(machine, root, Part::Pend(vcpu), Value::Pend(pend));
     Ok(Listed::from_vec(lpis?))
 }

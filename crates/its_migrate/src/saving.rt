@@ -5,7 +5,7 @@ ghost use Rattle.its_plain.specs.Answer.{save_reply};
 ghost use Rattle.its_plain.specs.Sound.{IsSound};
 ghost use Rattle.owned_parts.specs.Owned.{AreAllInHand, state_of, translator_of, translator_at};
 ghost use Rattle.std.specs.Option.{option_map};
-ghost use Rattle.held_parts.specs.Wholes.{state_of_whole};
+ghost use Rattle.held_parts.specs.Wholes.{redists_in, state_of_whole};
 ghost use Rattle.its_types.specs.declared.machine.Word.{Word};
 ghost use Rattle.its_plain.specs.declared.call.Call.TheVariants as call;
 ghost use Rattle.its_steps.specs.Calls.{staying};
@@ -108,7 +108,7 @@ fn saves(
     layout: &Layout,
     whole: &Whole,
 ) -> Result<Result<Draft, SaveFault>, AllocError>
-    requires hand { AreAllInHand layout.now.shape whole.now.redists }
+    requires hand { AreAllInHand layout.now.shape (redists_in whole.now) }
     requires sound { IsSound (state_of_whole layout.now whole.now) }
     ensures { IfOk result (λ r. LeavesMemory (state_of_whole layout.now whole.now) r) }
 {
@@ -132,11 +132,11 @@ fn answer_of(saved: &Result<Draft, SaveFault>) -> Result<(), SaveFault>
 // Lays the pages over guest memory, where the tables can be saved, and marks those that the tables
 // lie in. Takes no memory.
 fn adopt(saved: Result<Draft, SaveFault>, layout: &Layout, whole: &mut Whole)
-    requires hand { AreAllInHand layout.now.shape whole.old.redists }
+    requires hand { AreAllInHand layout.now.shape (redists_in whole.old) }
     requires sound { IsSound (state_of_whole layout.now whole.old) }
     ensures first { whole.new.first ≡ whole.old.first }
     ensures second { whole.new.second ≡ whole.old.second }
-    ensures redists { whole.new.redists ≡ whole.old.redists }
+    ensures redists { redists_in whole.new ≡ redists_in whole.old }
     ensures memory { whole.new.memory.value.memory
         ≡ memory_or whole.old.memory.value.memory saved }
     ensures track { whole.new.memory.value.track
@@ -150,11 +150,11 @@ fn adopt(saved: Result<Draft, SaveFault>, layout: &Layout, whole: &mut Whole)
 
 // Marks the pages of the tables that a save writes, where the machine has a second memory.
 fn mark_saved(layout: &Layout, whole: &mut Whole)
-    requires hand { AreAllInHand layout.now.shape whole.old.redists }
+    requires hand { AreAllInHand layout.now.shape (redists_in whole.old) }
     requires sound { IsSound (state_of_whole layout.now whole.old) }
     ensures first { whole.new.first ≡ whole.old.first }
     ensures second { whole.new.second ≡ whole.old.second }
-    ensures redists { whole.new.redists ≡ whole.old.redists }
+    ensures redists { redists_in whole.new ≡ redists_in whole.old }
     ensures memory { whole.new.memory.value.memory ≡ whole.old.memory.value.memory }
     ensures track { whole.new.memory.value.track ≡ marked (state_of_whole layout.now whole.old) }
 {
@@ -162,9 +162,8 @@ fn mark_saved(layout: &Layout, whole: &mut Whole)
         first,
         second,
         memory,
-        redists,
     } = whole;
-    mark_memory(layout, first, second, memory, redists);
+    mark_memory(layout, first, second, memory);
 }
 
 fn mark_memory(
@@ -172,17 +171,22 @@ fn mark_memory(
     first: &Translator,
     second: &Option<Box<Translator>>,
     memory: &mut GuestMemory,
-    redists: &Redists,
 )
-    requires hand { AreAllInHand layout.now.shape redists.now }
+    requires hand { AreAllInHand layout.now.shape memory.old.redists }
     requires sound { IsSound (state_of layout.now (translators_held first.now second.now)
-        memory.old.memory memory.old.track redists.now) }
+        memory.old.memory memory.old.track memory.old.redists) }
     ensures memory { memory.new.memory ≡ memory.old.memory }
+    ensures redists { memory.new.redists ≡ memory.old.redists }
     ensures track { memory.new.track
         ≡ marked (state_of layout.now (translators_held first.now second.now)
-        memory.old.memory memory.old.track redists.now) }
+        memory.old.memory memory.old.track memory.old.redists) }
 {
-    let GuestMemory { memory, track, .. } = memory;
+    let GuestMemory {
+        memory,
+        track,
+        redists,
+        ..
+    } = memory;
     if let Some(track) = track {
         mark_track(layout, first, second, memory, redists, track);
     }

@@ -1,5 +1,5 @@
 -- What stands in the slots at the end.
-use Rattle.std.proofs.Common.{◌≡◌, ℕ, zero, suc, ◌+◌, ◌*◌, ◌<◌, List, [], ◌∷◌, length, replicate, Option, Some, None, Box, Global, set, get_or, slice_get, refl}
+use Rattle.std.proofs.Common.{◌≡◌, ℕ, ◌+◌, ◌*◌, ◌<◌, List, [], ◌∷◌, length, Option, Some, None, Box, Global, set, get_or, slice_get}
 use Rattle.std.proofs.Common.{ap, sym, ◌∙◌, subst, arith, inl, inr, get_or-set_same, get_or-set_other}
 use Rattle.std.specs.Prelude.{MatchOption}
 use Rattle.std.specs.Option.{option_map}
@@ -14,18 +14,18 @@ use Rattle.its_types.specs.declared.machine.Word.{Word}
 use Rattle.its_plain.specs.Plain.{Plain, Translator, conf_of, pend_of}
 use Rattle.its_plain.specs.declared.layout.Layout.{Layout}
 use Rattle.lpi_config.specs.Conf.{conf_state}
-use Rattle.lpi_pending.specs.InHand.{pend_state, HasLpisOfConf, HasLpisOfPend}
+use Rattle.lpi_pending.specs.InHand.{pend_state, AreEmpty, HasLpisOfConf, HasLpisOfPend}
 use Rattle.owned_parts.specs.Owned.{translator_of, translators_of, IsConfOf, IsPendOf}
 use Rattle.owned_parts.specs.declared.parts.Translator.{Translator as TranslatorInHand}
-use Rattle.lpi_config.specs.declared.conf.Conf.{Conf as ConfInHand}
-use Rattle.lpi_pending.specs.declared.pend.Pend.{Pend as PendInHand}
-use Rattle.its_steps.specs.Parts.{Setup, IsOfMachine, Right}
+use Rattle.lpi_config.specs.Conf.{Conf as ConfInHand}
+use Rattle.lpi_pending.specs.Pend.{Pend as PendInHand}
+use Rattle.its_steps.specs.Parts.{Setup, IsOfMachine, Right, vcpu_count}
 use Rattle.its_steps.specs.Contents.{Content}
 use Rattle.its_turns.specs.declared.value.GuestMemory.{GuestMemory}
 use Rattle.its_turns.specs.declared.value.Value.{Value}
 use Rattle.its_turns.specs.declared.value.Value.TheVariants.{Vacant, Maps, Mem, Shard, Conf, Pend}
 use Rattle.its_turns.specs.Contents.{content_of, IsFit}
-use Rattle.its_turns.specs.Closed.{AreBelow, HasTranslatorAt, HasConfAt, HasPendAt}
+use Rattle.its_turns.specs.Closed.{AreBelow, HasTranslatorAt, HasMemoryAt, HasConfAt, HasPendAt}
 
 same_translator : (x y : Translator) → Some x ≡ Some y → x ≡ y
 same_translator x y e = cc
@@ -34,9 +34,9 @@ abbrev pub IsMaps : Plain → ℕ → Value → Type 0
 IsMaps u its (Maps b) = slice_get u.translators its ≡ Some (translator_of b.value)
 IsMaps u its x = ⊥
 
-abbrev pub IsMem : Plain → Value → Type 0
-IsMem u (Mem b) = (u.memory ≡ b.value.memory) × (u.track ≡ b.value.track)
-IsMem u x = ⊥
+abbrev pub IsMem : Setup → Plain → Value → Type 0
+IsMem s u (Mem b) = AreEmpty (vcpu_count s) b.value.redists × ((u.memory ≡ b.value.memory) × (u.track ≡ b.value.track))
+IsMem s u x = ⊥
 
 abbrev pub IsConf : Setup → Plain → ℕ → Value → Type 0
 IsConf s u v (Conf b) = HasLpisOfConf s.start.layout.shape b.value × (option_map conf_of (slice_get u.redistributors v) ≡ Some (conf_state b.value))
@@ -58,13 +58,13 @@ module _ (s : Setup) (word : Word) (u : Plain) where
   is_maps its (Conf b) c e r = subst (Right s word u (part.Maps its)) (same_content _ c e) r
   is_maps its (Pend b) c e r = subst (Right s word u (part.Maps its)) (same_content _ c e) r
 
-  pub is_mem : (x : Value) (c : Content) → content_of x ≡ some c → Right s word u part.Mem c → IsMem u x
-  is_mem Vacant c e r = absurd (some-ne-none c (sym e))
-  is_mem (Maps b) c e r = subst (Right s word u part.Mem) (same_content _ c e) r
-  is_mem (Mem b) c e r = subst (Right s word u part.Mem) (same_content _ c e) r
-  is_mem (Shard b) c e r = subst (Right s word u part.Mem) (same_content _ c e) r
-  is_mem (Conf b) c e r = subst (Right s word u part.Mem) (same_content _ c e) r
-  is_mem (Pend b) c e r = subst (Right s word u part.Mem) (same_content _ c e) r
+  pub is_mem : (x : Value) (c : Content) → content_of x ≡ some c → IsFit s x → Right s word u part.Mem c → IsMem s u x
+  is_mem Vacant c e f r = absurd (some-ne-none c (sym e))
+  is_mem (Maps b) c e f r = subst (Right s word u part.Mem) (same_content _ c e) r
+  is_mem (Mem b) c e f r = (f, subst (Right s word u part.Mem) (same_content _ c e) r)
+  is_mem (Shard b) c e f r = subst (Right s word u part.Mem) (same_content _ c e) r
+  is_mem (Conf b) c e f r = subst (Right s word u part.Mem) (same_content _ c e) r
+  is_mem (Pend b) c e f r = subst (Right s word u part.Mem) (same_content _ c e) r
 
   pub is_conf : (v : Vcpu) (x : Value) (c : Content) → content_of x ≡ some c → IsFit s x → Right s word u (part.Conf v) c → IsConf s u v.0 x
   is_conf v Vacant c e f r = absurd (some-ne-none c (sym e))
@@ -91,6 +91,14 @@ maps_there u its xs (Shard b) e i = absurd i
 maps_there u its xs (Conf b) e i = absurd i
 maps_there u its xs (Pend b) e i = absurd i
 
+pub mem_there : (s : Setup) (u : Plain) (at : ℕ) (xs : List Value) (x : Value) → get_elem? xs (8 * at) ≡ some x → IsMem s u x → HasMemoryAt at xs
+mem_there s u at xs Vacant e i = absurd i
+mem_there s u at xs (Maps b) e i = absurd i
+mem_there s u at xs (Mem b) e i = (b, e)
+mem_there s u at xs (Shard b) e i = absurd i
+mem_there s u at xs (Conf b) e i = absurd i
+mem_there s u at xs (Pend b) e i = absurd i
+
 pub conf_there : (s : Setup) (u : Plain) (v at : ℕ) (xs : List Value) (x : Value) → get_elem? xs (8 * at) ≡ some x → IsConf s u v x → HasConfAt at xs
 conf_there s u v at xs Vacant e i = absurd i
 conf_there s u v at xs (Maps b) e i = absurd i
@@ -111,6 +119,10 @@ pend_there s u v at xs (Pend b) e i = (b, e)
 pub no_maps : (its : ℕ) (xs : List Value) (x : Value) → get_elem? xs (8 * its) ≡ some x → HasTranslatorAt its xs
     → ((b : Box TranslatorInHand Global) → x ≡ Maps b → ⊥) → ⊥
 no_maps its xs x e has never = never has.0 (some-injective x (Maps has.0) (sym e ∙ has.1))
+
+pub no_mem : (at : ℕ) (xs : List Value) (x : Value) → get_elem? xs (8 * at) ≡ some x → HasMemoryAt at xs
+    → ((b : Box GuestMemory Global) → x ≡ Mem b → ⊥) → ⊥
+no_mem at xs x e has never = never has.0 (some-injective x (Mem has.0) (sym e ∙ has.1))
 
 pub no_conf : (at : ℕ) (xs : List Value) (x : Value) → get_elem? xs (8 * at) ≡ some x → HasConfAt at xs
     → ((b : Box ConfInHand Global) → x ≡ Conf b → ⊥) → ⊥
@@ -139,14 +151,6 @@ all_translators (a ∷ b ∷ []) first (Some t) n long one two =
     let e = sym (same_translator a _ one) in let f = sym (same_translator b _ two.1) in λ d. e d ∷ f d ∷ []
 all_translators (a ∷ b ∷ c ∷ ts) first (Some t) n long one two = absurd (omega (arith, long, two.0))
 
-pub no_mem : (u : Plain) (x : Value) → IsMem u x → ((b : Box GuestMemory Global) → x ≡ Mem b → ⊥) → ⊥
-no_mem u Vacant i never = i
-no_mem u (Maps b) i never = i
-no_mem u (Mem b) i never = never b refl
-no_mem u (Shard b) i never = i
-no_mem u (Conf b) i never = i
-no_mem u (Pend b) i never = i
-
 -- ---- the parts of redistributors, in their places
 
 module _ {T : Type 0} (is : ℕ → T → Type 0) where
@@ -172,13 +176,8 @@ module _ {T : Type 0} (is : ℕ → T → Type 0) where
   ]
 
   -- nothing is in hand at first
-  nothing_at : (n k : ℕ) → get_or {A = Option T} (replicate n None) k None ≡ None
-  nothing_at zero k = refl
-  nothing_at (suc n) zero = refl
-  nothing_at (suc n) (suc k) = nothing_at n k
-
-  pub none_below : (xs : List (Option T)) → xs ≡ replicate 16 None → AreBelow T is 0 xs
-  none_below xs e = record { below = λ k lt. absurd (omega arith); others = λ k le. ap (λ (ys : List (Option T)). get_or ys k None) e ∙ nothing_at 16 k }
+  pub none_below : (xs : List (Option T)) → ((k : ℕ) → get_or xs k None ≡ None) → AreBelow T is 0 xs
+  none_below xs e = record { below = λ k lt. absurd (omega arith); others = λ k le. e k }
 
 -- a configuration that a state of the machine has
 pub conf_is : (s : Setup) (u : Plain) (v : ℕ) (c : ConfInHand) → IsOfMachine s u → HasLpisOfConf s.start.layout.shape c

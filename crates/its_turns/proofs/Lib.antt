@@ -16,3 +16,4 @@ pub mod OnePart
 pub mod Telling
 pub mod Stamps
 pub mod Described
+pub mod Places

@@ -4,14 +4,15 @@ use Rattle.std.specs.Global.{Global}
 use mathlib.Core.Option.{some}
 use lib.ListN.{get_elem?}
 use Rattle.its_plain.specs.Plain.{Plain}
-use Rattle.lpi_config.specs.declared.conf.Conf.{Conf}
-use Rattle.lpi_pending.specs.declared.pend.Pend.{Pend}
+use Rattle.lpi_config.specs.Conf.{Conf}
+use Rattle.lpi_pending.specs.Pend.{Pend}
 use Rattle.owned_parts.specs.Owned.{ArePartsOf, IsConfOf, IsPendOf, translators_of}
 use Rattle.owned_parts.specs.declared.parts.Parts.{Parts}
 use Rattle.owned_parts.specs.declared.parts.Translator.{Translator as TranslatorInHand}
 use Rattle.its_steps.specs.Parts.{Setup, vcpu_count}
+use Rattle.its_turns.specs.declared.value.GuestMemory.{GuestMemory}
 use Rattle.its_turns.specs.declared.value.Value.{Value}
-use Rattle.its_turns.specs.declared.value.Value.TheVariants.{Maps, Conf as ConfOf, Pend as PendOf}
+use Rattle.its_turns.specs.declared.value.Value.TheVariants.{Maps, Mem, Conf as ConfOf, Pend as PendOf}
 
 -- of so many slots, of which some are filled still, just those below n were taken
 abbrev pub AreTaken : ℕ → ℕ → List Bool → Type 0
@@ -25,7 +26,15 @@ HasTranslatorAt its xs = (b : Box TranslatorInHand Global) × (get_elem? xs (8 *
 abbrev pub IsTranslatorAt : ℕ → List Value → TranslatorInHand → Type 0
 IsTranslatorAt its xs t = (b : Box TranslatorInHand Global) × (get_elem? xs (8 * its) ≡ some (Maps b)) × (b.value ≡ t)
 
--- a configuration stands in the slot of the part of this number
+-- guest memory stands in the slot of the part of this number
+abbrev pub HasMemoryAt : ℕ → List Value → Type 0
+HasMemoryAt part xs = (b : Box GuestMemory Global) × (get_elem? xs (8 * part) ≡ some (Mem b))
+
+-- and it is this one
+abbrev pub IsMemoryAt : ℕ → List Value → GuestMemory → Type 0
+IsMemoryAt part xs g = (b : Box GuestMemory Global) × (get_elem? xs (8 * part) ≡ some (Mem b)) × (b.value ≡ g)
+
+-- a configuration stands there
 abbrev pub HasConfAt : ℕ → List Value → Type 0
 HasConfAt part xs = (b : Box Conf Global) × (get_elem? xs (8 * part) ≡ some (ConfOf b))
 

@@ -2,9 +2,9 @@
 use Rattle.std.specs.Prelude.{ℕ, ◌*◌, List, [], ◌∷◌}
 use mathlib.Core.Option.{Option, none, some}
 use Rattle.lpi_config.specs.Conf.{conf_state}
-use Rattle.lpi_pending.specs.InHand.{pend_state, HasLpisOfConf, HasLpisOfPend}
+use Rattle.lpi_pending.specs.InHand.{pend_state, AreEmpty, HasLpisOfConf, HasLpisOfPend}
 use Rattle.owned_parts.specs.Owned.{translator_of}
-use Rattle.its_steps.specs.Parts.{Setup, index_of}
+use Rattle.its_steps.specs.Parts.{Setup, index_of, vcpu_count}
 use Rattle.its_steps.specs.Contents.{Content, Held}
 use Rattle.its_steps.specs.Contents as content
 use Rattle.its_turns.specs.declared.value.Value.{Value}
@@ -18,8 +18,9 @@ content_of (Shard s) = some (content.Shard s)
 content_of (Conf b) = some (content.Conf (conf_state b.value))
 content_of (Pend b) = some (content.Pend (pend_state b.value))
 
--- a part of a redistributor has as many LPIs as the machine
+-- a part of a redistributor has as many LPIs as the machine, and memory comes with an empty place for each such part
 abbrev pub IsFit : Setup → Value → Type 0
+IsFit s (Mem b) = AreEmpty (vcpu_count s) b.value.redists
 IsFit s (Conf b) = HasLpisOfConf s.start.layout.shape b.value
 IsFit s (Pend b) = HasLpisOfPend s.start.layout.shape b.value
 IsFit s x = Unit {0}

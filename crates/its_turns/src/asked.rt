@@ -6,6 +6,7 @@ use xlate_cache::shard_of;
 
 impl Machine {
     ghost use Rattle.std.specs.Prelude.{◌≡◌, ◌<◌, ◌≤◌, ℕ, length};
+    ghost use Rattle.its_types.specs.Ranges.{most_vcpus};
     ghost use Rattle.its_types.specs.declared.machine.Part.TheVariants as part;
     ghost use Rattle.xlate_cache.specs.Pairs.{shard_number};
     ghost use Rattle.its_plain.specs.Machine.{layout_of};
@@ -86,10 +87,10 @@ impl Machine {
         self.desc.shards
     }
 
-    /// How many virtual processors there are: at most 16.
-    pub fn vcpus(&self) -> u8
+    /// How many virtual processors there are: at most 512.
+    pub fn vcpus(&self) -> u16
         ensures vcpus { result ≡ vcpu_count (setup self.now) }
-        ensures most { result ≤ 16 }
+        ensures most { result ≤ most_vcpus }
     {
         self.desc.shape.vcpus
     }

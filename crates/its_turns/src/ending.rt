@@ -5,7 +5,7 @@ ghost use mathlib.Core.Option.{some};
 ghost use lib.ListN.{get_elem?};
 ghost use Rattle.its_plain.specs.History.{after};
 ghost use Rattle.its_turns.specs.Closed.{AreAllParts, AreTaken, IsTranslatorAt, HasTranslatorAt};
-ghost use Rattle.its_turns.specs.Closed.{HasConfAt, HasPendAt};
+ghost use Rattle.its_turns.specs.Closed.{HasMemoryAt, IsMemoryAt, HasConfAt, HasPendAt};
 ghost use Rattle.its_turns.specs.declared.value.Value.TheVariants as values;
 ghost use Rattle.its_turns.specs.Machines.{setup, view, IsOf};
 ghost use Rattle.its_turns.specs.Told.{IsLone};
@@ -36,7 +36,6 @@ pub fn close(machine: Machine, root: Root) -> Parts
         table,
         desc,
         layout,
-        places,
         translators,
         first_shard,
         first_conf,
@@ -44,13 +43,15 @@ pub fn close(machine: Machine, root: Root) -> Parts
         ..
     } = machine;
     let Pass { seat, .. } = root;
-    let mut redists = places;
     let mut closed = table.close_with(seat);
     let first = take_translator(&mut closed, 0);
     let second = take_second(&mut closed, translators);
-    let Value::Mem(memory) = take_part(&mut closed, usize::from(translators)) else {
-        unreachable!()
-    };
+    let GuestMemory {
+        memory,
+        track,
+        mut redists,
+        ..
+    } = take_memory(&mut closed, usize::from(translators));
     for shard in first_shard..first_conf {
         drop(take_part(&mut closed, shard));
     }
@@ -63,7 +64,6 @@ pub fn close(machine: Machine, root: Root) -> Parts
         redists.place_pend(Vcpu(vcpu), pend);
     }
     closed.free();
-    let GuestMemory { memory, track, .. } = Box::into_inner(memory);
     Parts {
         layout,
         first,
@@ -114,6 +114,26 @@ fn take_translator(closed: &mut Closed<Value, Global>, its: usize) -> Translator
         unreachable!()
     };
     Box::into_inner(translator)
+}
+
+// Guest memory, which is the next part.
+fn take_memory(closed: &mut Closed<Value, Global>, part: usize) -> GuestMemory
+    requires low { part < 2048 }
+    requires inside { 8 * part + 8 ≤ slots_len closed.old.slots }
+    requires front { AreTaken (8 * part) (slots_len closed.old.slots)
+        (slots_filled closed.old.slots) }
+    requires there { HasMemoryAt part (slots_items closed.old.slots) }
+    ensures memory { IsMemoryAt part (slots_items closed.old.slots) result }
+    ensures items { slots_items closed.new.slots ≡ slots_items closed.old.slots }
+    ensures length { slots_len closed.new.slots ≡ slots_len closed.old.slots }
+    ensures words { closed.new.words ≡ closed.old.words }
+    ensures front { AreTaken (8 * part + 8) (slots_len closed.new.slots)
+        (slots_filled closed.new.slots) }
+{
+    let Value::Mem(memory) = take_part(closed, part) else {
+        unreachable!()
+    };
+    Box::into_inner(memory)
 }
 
 // The configuration that is the next part.

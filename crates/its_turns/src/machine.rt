@@ -1,6 +1,6 @@
 //! The machine and its passes.
-ghost use Rattle.std.specs.Prelude.{◌≡◌, ◌+◌, ◌*◌, ◌^◌, ◌<◌, ◌≤◌, true, [], None, replicate};
-ghost use Rattle.std.specs.Prelude.{length};
+ghost use Rattle.std.specs.Prelude.{◌≡◌, ◌+◌, ◌*◌, ◌^◌, ◌<◌, ◌≤◌, true, [], length};
+ghost use Rattle.its_types.specs.Ranges.{most_vcpus};
 ghost use Rattle.its_plain.specs.Machine.{layout_of};
 ghost use Rattle.its_steps.specs.Parts.{part_count, translator_count, vcpu_count};
 ghost use Rattle.its_steps.specs.Parts.{HasVcpus};
@@ -14,7 +14,6 @@ use crate::law::{Known, Law, Origin};
 use crate::value::Value;
 use atomic_table::{Seat, Table};
 use its_plain::{Desc, Layout};
-use lpi_pending::Redists;
 use std::alloc::Global;
 
 /// A machine that threads share: the word that commits exchange, and for each part a turn and a
@@ -24,8 +23,6 @@ pub struct Machine {
     pub(crate) table: Table<Value, Known, Origin, Law, Global>,
     pub(crate) desc: Desc,
     pub(crate) layout: Layout,
-    // No part of a redistributor is in hand: they go here when the machine is closed.
-    pub(crate) places: Redists,
     // How many translators there are.
     pub(crate) translators: u8,
     // The number of the first shard among the parts, that of the first configuration, and that of
@@ -50,9 +47,8 @@ pub struct Machine {
         × (first_pend + vcpu_count (setup_of table.shared.key)
         ≡ part_count (setup_of table.shared.key)) × (first_conf ≤ 131) },
     pub ghost shifted: { first_shift + 12 ≡ 12 * translators },
-    pub ghost small: { (1 ≤ desc.shards) × (desc.shards ≤ 64) × (desc.shape.vcpus ≤ 16)
+    pub ghost small: { (1 ≤ desc.shards) × (desc.shards ≤ 64) × (desc.shape.vcpus ≤ most_vcpus)
         × (desc.limits.place_last < 2 ^ 40) × (desc.limits.stamp_last < 2 ^ 24) },
-    pub ghost bare: { (places.confs ≡ replicate 16 None) × (places.pends ≡ replicate 16 None) },
 }
 
 /// The token with which one thread makes calls. The root is the pass numbered 0.

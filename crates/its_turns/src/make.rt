@@ -2,6 +2,7 @@
 ghost use Rattle.std.specs.Prelude.{◌≡◌, ◌+◌, ◌^◌, ◌<◌, ◌≤◌, ◌++◌, ◌∷◌, [], map, replicate, length};
 ghost use Rattle.std.specs.Prelude.{IfOk};
 ghost use Rattle.std.specs.Prelude.{OnOk};
+ghost use Rattle.its_types.specs.Ranges.{most_vcpus};
 ghost use Rattle.owned_parts.specs.Owned.{AreAllInHand, translators_of};
 ghost use Rattle.its_plain.specs.Machine.{layout_of};
 ghost use Rattle.its_plain.specs.Sound.{IsSound};
@@ -18,6 +19,7 @@ use crate::law::{Known, Law, Origin};
 use crate::machine::{Machine, Pass, Root};
 use crate::value::{GuestMemory, Value};
 use atomic_table::{Seat, Table};
+use gicr_regs::GicrValues;
 use guest_windows::Spare;
 use its_plain::{Desc, Its, Layout, LpiTables, RequesterRanges};
 use its_types::{Listed, Vcpu};
@@ -38,7 +40,7 @@ impl Machine {
     pub fn new(alloc: Global, desc: &Desc, parts: Parts) -> Result<(Machine, Root), AllocError>
         requires some_shards { 1 ≤ desc.now.shards }
         requires most_shards { desc.now.shards ≤ 64 }
-        requires vcpus { desc.now.shape.vcpus ≤ 16 }
+        requires vcpus { desc.now.shape.vcpus ≤ most_vcpus }
         requires stamps { desc.now.limits.stamp_last < 2 ^ 24 }
         requires places { desc.now.limits.place_last < 2 ^ 40 }
         requires translators { length desc.now.translators
@@ -69,7 +71,6 @@ impl Machine {
                 table,
                 desc: frame.desc,
                 layout: frame.layout,
-                places: Redists::new(),
                 translators,
                 first_shard,
                 first_conf,
@@ -180,13 +181,18 @@ fn tables_of(alloc: Global, tables: &LpiTables) -> Result<LpiTables, AllocError>
                 pending: Listed::from_vec(pending),
             })
         }
-        LpiTables::Registers(values) => Ok(LpiTables::Registers(*values)),
+        LpiTables::Registers(values) => {
+            let registers = Vec::from_slice(alloc, values.registers.as_slice())?;
+            Ok(LpiTables::Registers(GicrValues {
+                registers: Listed::from_vec(registers),
+            }))
+        }
     }
 }
 
 // The values of all parts, each in its slot.
 fn slots_of(alloc: Global, desc: &Desc, parts: Parts) -> Result<Vec<Value>, AllocError>
-    requires vcpus { parts.layout.shape.vcpus ≤ 16 }
+    requires vcpus { parts.layout.shape.vcpus ≤ most_vcpus }
     requires hand { AreAllInHand parts.layout.shape parts.redists }
     ensures { IfOk result (λ v. AreSlots (setup_from desc.now parts) v.items) }
 {
@@ -197,7 +203,7 @@ fn slots_of(alloc: Global, desc: &Desc, parts: Parts) -> Result<Vec<Value>, Allo
 
 // The values of all parts.
 fn first_values(alloc: Global, desc: &Desc, parts: Parts) -> Result<Vec<Value>, AllocError>
-    requires vcpus { parts.layout.shape.vcpus ≤ 16 }
+    requires vcpus { parts.layout.shape.vcpus ≤ most_vcpus }
     requires hand { AreAllInHand parts.layout.shape parts.redists }
     ensures { IfOk result (λ v. AreFirst (setup_from desc.now parts) v.items) }
 {
@@ -211,10 +217,12 @@ fn first_values(alloc: Global, desc: &Desc, parts: Parts) -> Result<Vec<Value>, 
     } = parts;
     let mut values = first_maps(alloc, first, second)?;
     let shards = values.len() * desc.shards as usize;
+    let places = Redists::with_room(alloc, layout.shape.vcpus)?;
     let memory = GuestMemory {
         memory,
         spare: Spare::new(),
         track,
+        redists: places,
     };
     values.push(Value::Mem(Box::new(alloc, memory)?))?;
     for _shard in 0..shards {

@@ -2,7 +2,7 @@
 ghost use Rattle.std.specs.Prelude.{◌≡◌, ◌<◌, MatchResult};
 ghost use Rattle.its_types.specs.declared.machine.Part.TheVariants as part;
 ghost use Rattle.lpi_config.specs.Conf.{conf_state};
-ghost use Rattle.lpi_pending.specs.InHand.{pend_state, HasLpisOfConf, HasLpisOfPend};
+ghost use Rattle.lpi_pending.specs.InHand.{pend_state, AreEmpty, HasLpisOfConf, HasLpisOfPend};
 ghost use Rattle.owned_parts.specs.Owned.{translator_of};
 ghost use Rattle.its_steps.specs.Good.{Holds};
 ghost use Rattle.its_steps.specs.Parts.{Stands, translator_count, vcpu_count};
@@ -37,14 +37,14 @@ pub fn try_take_maps(machine: &Machine, pass: &mut Pass, its: u8) -> Result<Box<
     }
 }
 
-/// Tries the turn of guest memory once, and takes it out.
+/// Tries the turn of guest memory once, and takes it out with the places for redistributors.
 pub fn try_take_memory(machine: &Machine, pass: &mut Pass) -> Result<Box<GuestMemory>, Busy>
     requires of { IsOf machine.now pass.old }
     requires free { ¬ Holds part.Mem (view pass.old).held }
     ensures of { IsOf machine.now pass.new }
     ensures result { MatchResult result
         (λ x. TakesPart (view pass.old) part.Mem (content.Mem x.value.memory x.value.track)
-        (view pass.new))
+        (view pass.new) × AreEmpty (vcpu_count (setup machine.now)) x.value.redists)
         (λ b. IsBusy (view pass.old) part.Mem b (view pass.new)) }
 {
     match try_take(machine, pass, Part::Mem) {

@@ -2,7 +2,7 @@
 use dirty_log::Tracked;
 use guest_windows::{Memory, Spare};
 use lpi_config::Conf;
-use lpi_pending::Pend;
+use lpi_pending::{Pend, Redists};
 use owned_parts::Translator;
 use xlate_cache::Shard;
 
@@ -15,6 +15,9 @@ pub struct GuestMemory {
     pub spare: Spare,
     /// The copy of the memory and its dirty pages, if the machine has them.
     pub track: Option<Tracked>,
+    /// Empty places for the redistributors of all virtual processors, for whoever has memory in
+    /// hand.
+    pub redists: Redists,
 }
 
 /// The value of a part, or nothing where it is out of its slot. It takes 16 bytes.

@@ -27,11 +27,11 @@ pub enum Ask {
     Hit(u32),
     /// A signal of this event.
     Send(u32),
-    Take(u8),
-    Show(u8),
+    Take(u16),
+    Show(u16),
     /// The first by priority below a mask.
-    Best(u8, u8),
-    Claim(u8, u32),
+    Best(u16, u8),
+    Claim(u16, u32),
     /// A write of one byte of memory.
     Poke(u64, u8),
     /// A read of so many bytes of memory.
@@ -40,8 +40,8 @@ pub enum Ask {
     Read(u32, u8),
     Write(u32, u8, u64),
     /// A read of a processor's LPI register of so many bytes.
-    ReadGicr(u8, u32, u8),
-    WriteGicr(u8, u32, u8, u64),
+    ReadGicr(u16, u32, u8),
+    WriteGicr(u16, u32, u8, u64),
     /// A command at this place of the queue, counted from 0: it is poked, CWRITER is moved past it,
     /// and the translator steps. These are three calls, and the last one answers.
     Run(u8, Given),
@@ -55,7 +55,7 @@ pub enum Ask {
 pub enum Said {
     At(u64, Reply),
     /// A processor and its LPI.
-    Sent(u64, u8, u32),
+    Sent(u64, u16, u32),
     Dropped(u64, Cause),
     /// An LPI and its priority.
     Lpi(u64, u32, u8),
@@ -93,7 +93,7 @@ pub fn meant(said: Said) -> Said {
     }
 }
 
-fn sent(vcpu: u8, intid: u32) -> Reply {
+fn sent(vcpu: u16, intid: u32) -> Reply {
     Reply::Signal(Signal::Delivered {
         vcpu: Vcpu(vcpu),
         intid: Intid(intid),
@@ -130,7 +130,7 @@ pub fn send<R: Wait>(rt: &R, machine: &Machine, pass: &mut Pass, ev: u32) -> Sai
     }
 }
 
-pub fn taken<R: Wait>(rt: &R, machine: &Machine, pass: &mut Pass, vcpu: u8) -> Said
+pub fn taken<R: Wait>(rt: &R, machine: &Machine, pass: &mut Pass, vcpu: u16) -> Said
     requires { IsReady machine.now pass.old }
     ensures { IsReady machine.now pass.new }
 {
@@ -143,7 +143,7 @@ pub fn taken<R: Wait>(rt: &R, machine: &Machine, pass: &mut Pass, vcpu: u8) -> S
     }
 }
 
-fn shown<R: Wait>(rt: &R, machine: &Machine, pass: &mut Pass, vcpu: u8) -> Said
+fn shown<R: Wait>(rt: &R, machine: &Machine, pass: &mut Pass, vcpu: u16) -> Said
     requires { IsReady machine.now pass.old }
     ensures { IsReady machine.now pass.new }
 {
@@ -156,7 +156,7 @@ fn shown<R: Wait>(rt: &R, machine: &Machine, pass: &mut Pass, vcpu: u8) -> Said
     }
 }
 
-fn best_of<R: Wait>(rt: &R, machine: &Machine, pass: &mut Pass, vcpu: u8, mask: u8) -> Said
+fn best_of<R: Wait>(rt: &R, machine: &Machine, pass: &mut Pass, vcpu: u16, mask: u8) -> Said
     requires { IsReady machine.now pass.old }
     ensures { IsReady machine.now pass.new }
 {
@@ -169,7 +169,7 @@ fn best_of<R: Wait>(rt: &R, machine: &Machine, pass: &mut Pass, vcpu: u8, mask: 
     }
 }
 
-fn claimed<R: Wait>(rt: &R, machine: &Machine, pass: &mut Pass, vcpu: u8, intid: u32) -> Said
+fn claimed<R: Wait>(rt: &R, machine: &Machine, pass: &mut Pass, vcpu: u16, intid: u32) -> Said
     requires { IsReady machine.now pass.old }
     ensures { IsReady machine.now pass.new }
 {
@@ -239,7 +239,7 @@ fn read_lpi<R: Wait>(
     rt: &R,
     machine: &Machine,
     pass: &mut Pass,
-    vcpu: u8,
+    vcpu: u16,
     off: u32,
     size: u8,
 ) -> Said
@@ -259,7 +259,7 @@ fn written_lpi<R: Wait>(
     rt: &R,
     machine: &Machine,
     pass: &mut Pass,
-    vcpu: u8,
+    vcpu: u16,
     off: u32,
     size: u8,
     value: u64,

@@ -11,7 +11,7 @@ pub enum Given {
     MapdBeside,
     Unmapd,
     /// A collection and its target.
-    Mapc(u16, u8),
+    Mapc(u16, u16),
     /// An event, its LPI and its collection.
     Mapti(u32, u32, u16),
     /// An event and its new collection.
@@ -19,7 +19,7 @@ pub enum Given {
     Discard(u32),
     Inv(u32),
     /// The processor that LPIs leave, and the one that they go to.
-    Movall(u8, u8),
+    Movall(u16, u16),
 }
 
 pub fn command(given: Given) -> Command {

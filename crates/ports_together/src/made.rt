@@ -36,7 +36,7 @@ fn tables(alloc: Global, gicr: bool) -> Result<LpiTables, AllocError>
 {
     if gicr {
         return Ok(LpiTables::Registers(GicrValues {
-            registers: [OFF; 16],
+            registers: Listed::from_vec(vec![in alloc; OFF; 4]?),
         }));
     }
     let mut pending = Listed::new(alloc);

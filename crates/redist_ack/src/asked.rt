@@ -52,9 +52,9 @@ impl Asked {
             (λ intid. is_lpi pend.now.pending.lpi_bits intid.0 ≡ true) }
     {
         match self {
-            Asked::Take | Asked::Show => pend.pending.first_enabled(&conf.config),
-            Asked::Best(mask) => pend.pending.first_by_priority(&conf.config, mask),
-            Asked::Claim(intid) => pend.pending.claimable(&conf.config, intid),
+            Asked::Take | Asked::Show => pend.first_enabled(conf),
+            Asked::Best(mask) => pend.first_by_priority(conf, mask),
+            Asked::Claim(intid) => pend.claimable(conf, intid),
         }
     }
 
@@ -68,7 +68,7 @@ impl Asked {
         match self.choose(conf, pend) {
             Some(intid) => Ack::Some {
                 intid,
-                priority: conf.config.byte(intid) & 0xfc,
+                priority: conf.byte(intid) & 0xfc,
             },
             None => Ack::None,
         }
@@ -95,6 +95,6 @@ fn acknowledge(pend: &mut Pend, answer: Ack)
     ensures lpis { pend.new.pending.lpi_bits ≡ pend.old.pending.lpi_bits }
 {
     if let Ack::Some { intid, .. } = answer {
-        pend.pending.clear(intid);
+        pend.clear(intid);
     }
 }

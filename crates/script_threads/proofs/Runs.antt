@@ -126,7 +126,7 @@ takes_memory u (call.Peek addr count) t = absurd t
 takes_memory u (call.ReadReg its off size) t = absurd t
 takes_memory u (call.WriteReg its off size value) t = absurd t
 takes_memory u (call.ReadGicr vcpu off size) t = absurd t
-takes_memory u (call.WriteGicr vcpu off size value) t = absurd t
+takes_memory u (call.WriteGicr vcpu off size value) t = t
 
 memory_of : (w x : View) (c : Call) (stop : Stop) → Answers w c x (Err stop) → stop ≡ NoMemory → TakesMemory c
 memory_of w x c Spent r e = absurd (cc e)

@@ -1,7 +1,9 @@
 -- What a thread may ask, and what it is answered.
-use Rattle.std.specs.Prelude.{◌≡◌, ◌<◌, length, Result, Ok, Err}
+use Rattle.std.specs.Prelude.{◌≡◌, ◌<◌, ℕ, true, length, Result, Ok, Err}
 use Rattle.std.specs.List.{AllByRecursion}
+use Rattle.gicr_regs.specs.Registers.{asked_by}
 use Rattle.its_types.specs.declared.machine.Placed.{Placed}
+use Rattle.its_types.specs.declared.translation.Bases.{Bases}
 use Rattle.its_plain.specs.Doorbells.{route_of}
 use Rattle.its_plain.specs.History.{after}
 use Rattle.its_plain.specs.Plain.{Plain}
@@ -20,6 +22,7 @@ use Rattle.its_turns.specs.declared.attempts.NotMade.TheVariants as not_made
 use Rattle.its_turns.specs.declared.attempts.Spent.{Spent as AllUsed}
 use Rattle.its_turns.specs.declared.machine.Machine.{Machine}
 use Rattle.cmd_engine.specs.Telling.{WantsMemory}
+use Rattle.lpi_pending.specs.Rooms.{is_enable}
 use Rattle.device_port.specs.Routes.{AreDevices}
 use Rattle.script_threads.specs.declared.stop.Stop.{Stop}
 use Rattle.script_threads.specs.declared.stop.Stop.TheVariants.{Spent, NoMemory}
@@ -57,12 +60,17 @@ abbrev pub WritesMemory : Route → Type 0
 WritesMemory route.Poke = Unit {0}
 WritesMemory other = ⊥
 
+-- a write of the LPI registers that asks to turn LPIs on, where they are off
+abbrev pub MayTurnOn : ℕ → ℕ → ℕ → Type 0
+MayTurnOn off size value = (b : Bases) × (is_enable (asked_by b off size value) ≡ true)
+
 -- the call takes memory before it is made, and may find none
 abbrev pub TakesMemory : Call → Type 0
 TakesMemory (call.Step its) = Unit {0}
 TakesMemory call.Save = Unit {0}
 TakesMemory (call.Poke addr bytes) = Unit {0}
 TakesMemory (call.Dma req addr bytes to) = WritesMemory to
+TakesMemory (call.WriteGicr vcpu off size value) = MayTurnOn off size value
 TakesMemory other = ⊥
 
 -- in this state the call takes memory: a step only where its command isn't refused and adds a device, a collection or an event
@@ -71,6 +79,7 @@ TakesMemoryIn u (call.Step its) = WantsMemory u its
 TakesMemoryIn u call.Save = Unit {0}
 TakesMemoryIn u (call.Poke addr bytes) = Unit {0}
 TakesMemoryIn u (call.Dma req addr bytes to) = WritesMemory to
+TakesMemoryIn u (call.WriteGicr vcpu off size value) = MayTurnOn off size value
 TakesMemoryIn u other = ⊥
 
 -- The call was made, or nothing was: where all places are used, or where it takes memory in the state that the pass has seen

@@ -1,15 +1,16 @@
-use Rattle.std.proofs.Common.{ap, sym, ◌∙◌, refl}
+use Rattle.std.proofs.Common.{Some, ap, sym, ◌∙◌, refl}
 use Rattle.its_plain.specs.declared.call.Call.TheVariants as call
 use Rattle.its_plain.specs.declared.call.CmdReply.{CmdReply}
 use Rattle.its_plain.specs.declared.call.Reply.TheVariants as reply
 use Rattle.its_plain.specs.declared.call.StepReply.{StepReply}
 use Rattle.its_turns.specs.Machines.{setup, view}
+use Rattle.its_turns.specs.declared.value.GuestMemory.{GuestMemory}
 use Rattle.its_turns.proofs.Stamps.{has_stamps}
 use Rattle.cmd_exec.specs.Executed.{planned_reply}
 use Rattle.cmd_exec.specs.Room.{adds}
 use mathlib.Core.List.{IsPrefix}
 use Rattle.cmd_engine.specs.Cached.{IsAny}
-use Rattle.cmd_engine.specs.Hands.{IsOfStep}
+use Rattle.cmd_engine.specs.Hands.{Memory, IsOfStep}
 use Rattle.cmd_engine.proofs.Came.{came_spent, came_no_memory, came_late, came_raced, made_as}
 use Rattle.cmd_engine.proofs.Carrying.{if_err, wants, sound_in, leaves_so, within_then, may_commit, in_hand_then}
 use Rattle.cmd_engine.proofs.commands.make_command.Goals as goal
@@ -30,7 +31,7 @@ returns-then-is_err-clause-comes g c v bare goes = let m = c.args.machine.now in
     (view c.begin.new.pass) c.in-Ok.word q.of.1 c.in-Ok.ensures.word.0 c.desc.result.now.shape c.desc.ensures.shape _
     (ap (λ t. adds t.maps.maps c.plan-planned.result) (sym c.deref_mut-translator.ensures.value)
     ∙ if_err c.make_room.result (sym c.is_err.ensures.value ∙ c.if-is_err.true) c.make_room.ensures.growing)
-    (rw (c.deref_mut-translator.ensures.value, c.deref.ensures) at c.plan-planned.ensures.adds))
+    (rw (c.deref_mut-translator.ensures.value, c.deref_mut.ensures.value) at c.plan-planned.ensures.adds))
 
 pub returns-in_default-mark_of-clause-comes : goal.returns-in_default-mark_of-clause-comes
 returns-in_default-mark_of-clause-comes g c v bare goes = let i = c.args.hands.now.its in
@@ -43,7 +44,7 @@ pub commit_marked-requires-clause-after : goal.commit_marked-requires-clause-aft
 commit_marked-requires-clause-after g c = let m = c.args.machine.now in let q = c.requires in let said : CmdReply = planned_reply c.plan-planned.result in
     within_then (setup m) (has_stamps m) (view c.args.pass.now) c.args.hands.now q.hands c.in-Some.memory c.in-Some.is c.args.command.now q.meets q.ends
     q.needed (view c.begin.new.pass) c.in-Ok.word q.of.1 c.in-Ok.ensures.word.0 c.desc.result.now.shape c.desc.ensures.shape said
-    (rw (c.deref_mut-translator.ensures.value, c.deref.ensures) at c.plan-planned.ensures.reply) c.in-Ok.ensures.word.1 c.in-Some-mark_of.mark
+    (rw (c.deref_mut-translator.ensures.value, c.deref_mut.ensures.value) at c.plan-planned.ensures.reply) c.in-Ok.ensures.word.1 c.in-Some-mark_of.mark
     (rw (c.reply.ensures) at c.in-Some-mark_of.ensures)
 
 pub commit_marked-requires-clause-may : goal.commit_marked-requires-clause-may
@@ -51,7 +52,7 @@ commit_marked-requires-clause-may g c = let m = c.args.machine.now in let q = c.
     rw (c.step_reply-reply.ensures)
     (may_commit (setup m) (has_stamps m) (view c.args.pass.now) c.args.hands.now q.hands c.in-Some.memory c.in-Some.is c.args.command.now q.meets q.ends
     q.needed (view c.begin.new.pass) c.in-Ok.word q.of.1 c.in-Ok.ensures.word.0 c.desc.result.now.shape c.desc.ensures.shape said
-    (rw (c.deref_mut-translator.ensures.value, c.deref.ensures) at c.plan-planned.ensures.reply) c.in-Ok.ensures.word.1 c.in-Some-mark_of.mark
+    (rw (c.deref_mut-translator.ensures.value, c.deref_mut.ensures.value) at c.plan-planned.ensures.reply) c.in-Ok.ensures.word.1 c.in-Some-mark_of.mark
     (rw (c.reply.ensures) at c.in-Some-mark_of.ensures))
 
 pub returns-in-Err-clause-comes : goal.returns-in-Err-clause-comes
@@ -63,7 +64,7 @@ returns-in-Err-clause-comes g c v bare goes = let i = c.args.hands.now.its in
 
 pub apply-requires-clause-parts : goal.apply-requires-clause-parts
 apply-requires-clause-parts g c = let m = c.args.machine.now in let q = c.requires in
-    rw (c.deref_mut-translator.ensures.value, c.deref.ensures)
+    rw (c.deref_mut-translator.ensures.value, c.deref_mut.ensures.value)
     (sound_in (setup m) (has_stamps m) (view c.args.pass.now) c.args.hands.now q.hands c.in-Some.memory c.in-Some.is c.args.command.now q.meets q.ends q.needed
     (view c.begin.new.pass) c.in-Ok.word q.of.1 c.in-Ok.ensures.word.0 c.desc.result.now.shape c.make_room.new.maps.maps c.desc.ensures.shape
     (c.make_room.ensures.maps ∙ ap (λ t. t.maps.maps) c.deref_mut-translator.ensures.value))
@@ -72,11 +73,15 @@ pub returns-clause-hands : goal.returns-clause-hands
 returns-clause-hands g c = let m = c.args.machine.now in let q = c.requires in let said : CmdReply = planned_reply c.plan-planned.result in
     in_hand_then (setup m) (has_stamps m) (view c.args.pass.now) c.args.hands.now q.hands c.in-Some.memory c.in-Some.is c.args.command.now q.meets q.ends
     q.needed (view c.begin.new.pass) c.in-Ok.word q.of.1 c.in-Ok.ensures.word.0 c.desc.result.now.shape c.desc.ensures.shape said
-    (rw (c.deref_mut-translator.ensures.value, c.deref.ensures) at c.plan-planned.ensures.reply) c.in-Ok.ensures.word.1 c.in-Some-mark_of.mark
+    (rw (c.deref_mut-translator.ensures.value, c.deref_mut.ensures.value) at c.plan-planned.ensures.reply) c.in-Ok.ensures.word.1 c.in-Some-mark_of.mark
     (rw (c.reply.ensures) at c.in-Some-mark_of.ensures)
     c.make_room.new.maps.maps (c.make_room.ensures.maps ∙ ap (λ t. t.maps.maps) c.deref_mut-translator.ensures.value) c.plan-planned.result.command
-    c.plan-planned.ensures.plan.command _ refl refl refl (rw (c.deref_mut-translator.ensures.value, c.deref.ensures) at c.apply.ensures.left)
-    c.apply.ensures.confs c.apply.ensures.pends c.change.ensures (view c.commit_marked.new.pass)
+    c.plan-planned.ensures.plan.command _ refl c.apply.new.redists
+    (ap (λ (m : GuestMemory). (let k : Memory = Some (record c.in-Some.memory { value = record m { redists = c.apply.new.redists } }) in k))
+    c.deref_mut.ensures.value) refl
+    (rw (c.deref_mut-translator.ensures.value, c.deref_mut.ensures.value) at c.apply.ensures.left)
+    (rw (c.deref_mut.ensures.value) at c.apply.ensures.confs) (rw (c.deref_mut.ensures.value) at c.apply.ensures.pends)
+    (rw (c.deref_mut.ensures.value) at c.apply.ensures.room) c.change.ensures (view c.commit_marked.new.pass)
     (rw (c.step_reply-reply.ensures) at c.in-Ok-commit_marked.ensures.result.1)
 
 pub returns-clause-comes : goal.returns-clause-comes
@@ -88,5 +93,5 @@ returns-clause-comes g c v bare goes = let m = c.args.machine.now in let q = c.r
     q.hands.its c.in-Some-mark_of.mark c.in-Ok-commit_marked.ensures.result.1
     (leaves_so (setup m) (has_stamps m) (view c.args.pass.now) c.args.hands.now q.hands c.in-Some.memory c.in-Some.is c.args.command.now q.meets q.ends
     q.needed (view c.begin.new.pass) c.in-Ok.word q.of.1 c.in-Ok.ensures.word.0 c.desc.result.now.shape c.desc.ensures.shape said
-    (rw (c.deref_mut-translator.ensures.value, c.deref.ensures) at c.plan-planned.ensures.reply) c.in-Ok.ensures.word.1 c.in-Some-mark_of.mark
+    (rw (c.deref_mut-translator.ensures.value, c.deref_mut.ensures.value) at c.plan-planned.ensures.reply) c.in-Ok.ensures.word.1 c.in-Some-mark_of.mark
     (rw (c.reply.ensures) at c.in-Some-mark_of.ensures)) c.in-Ok-commit_marked.place c.in-Ok-commit_marked.ensures.result.0

@@ -9,14 +9,18 @@ use Rattle.cmd_engine.specs.Hands.{IsOfStep}
 use Rattle.cmd_engine.specs.Telling.{Comes}
 use Rattle.cmd_engine.specs.declared.cached.Cached.TheVariants as cached
 use Rattle.cmd_engine.proofs.Came.{came_home}
-use Rattle.cmd_engine.proofs.Getting.{own_in_hand}
+use Rattle.cmd_engine.proofs.Getting.{base_of, own_in_hand}
 use Rattle.cmd_engine.proofs.steps.step_held.Goals as goal
 
 pub step_with-made-requires-clause-hands : goal.step_with-made-requires-clause-hands
 step_with-made-requires-clause-hands g c =
     let e = c.new-hands.ensures in
     own_in_hand (setup c.args.machine.now) (view c.args.pass.now) _ c.args.its c.args.translator (Some c.args.memory) cached.Nothing
-    e.its e.translator e.memory e.cached e.confs e.pends e.needs_no_conf e.needs_no_pend c.requires.its tt c.requires.held
+    e.its e.translator e.memory e.cached c.requires.room e.needs_no_conf e.needs_no_pend c.requires.its tt c.requires.held
+
+pub step_with-made-requires-clause-base : goal.step_with-made-requires-clause-base
+step_with-made-requires-clause-base g c =
+    let e = c.new-hands.ensures in base_of (setup c.args.machine.now) c.new-hands.result c.args.memory e.memory e.cached c.requires.room
 
 pub step_with-made-requires-clause-stood : goal.step_with-made-requires-clause-stood
 step_with-made-requires-clause-stood g c = let e = c.new-hands.ensures in rw (e.its, e.translator) c.requires.stood

@@ -23,8 +23,8 @@ make_write-made-requires-clause-hands g c =
     let t = c.take_maps-translator.result in let e = c.new-hands.ensures in
     let first = took_held v y (part.Maps i) (Maps (translator_of t.value)) c.take_maps-translator.ensures.takes
     ∙ ap (λ (l : List Held). out (part.Maps i) (Maps (translator_of t.value)) ∷ l) c.requires.free in
-    own_in_hand s (view c.take_cached.new.pass) _ i t None c.take_cached.new.cached e.its e.translator e.memory refl e.confs e.pends e.needs_no_conf e.needs_no_pend c.requires.its
-    c.take_cached.ensures.whole (c.take_cached.ensures.held ∙ ap (cached_held i s.shards c.take_cached.new.cached) first)
+    own_in_hand s (view c.take_cached.new.pass) _ i t None c.take_cached.new.cached e.its e.translator e.memory refl tt e.needs_no_conf e.needs_no_pend
+    c.requires.its c.take_cached.ensures.whole (c.take_cached.ensures.held ∙ ap (cached_held i s.shards c.take_cached.new.cached) first)
 
 pub returns-clause-comes : goal.returns-clause-comes
 returns-clause-comes g c =
@@ -34,8 +34,9 @@ returns-clause-comes g c =
     (Maps (translator_of c.take_maps-translator.result.value)) refl c.take_maps-translator.ensures.takes in
     let goes : Goes (IsOfTranslator i) v x = going_then (IsOfTranslator i) v y x first c.take_cached.ensures.goes in
     let came : ComesWith {T = Unit {0}} (IsAny c.take_cached.new.cached × IsPrefix x.seen z.seen) (IsOfTranslator i) v (write_call i c.args.write)
-    (λ (u : Unit {0}). reply.Ok) z c.make_write-made.result = subst (λ (n : ℕ). ComesWith {T = Unit {0}} (IsAny c.take_cached.new.cached × IsPrefix x.seen z.seen)
-    (IsOfTranslator n) v (write_call n c.args.write) (λ (u : Unit {0}). reply.Ok) z c.make_write-made.result) own
+    (λ (u : Unit {0}). reply.Ok) z c.make_write-made.result =
+    subst (λ (n : ℕ). ComesWith {T = Unit {0}} (IsAny c.take_cached.new.cached × IsPrefix x.seen z.seen) (IsOfTranslator n) v
+    (write_call n c.args.write) (λ (u : Unit {0}). reply.Ok) z c.make_write-made.result) own
     (c.make_write-made.ensures.comes v c.requires.free (subst (λ (n : ℕ). Goes (IsOfTranslator n) v x) (sym own) goes)) in
     came_home (IsOfTranslator i) v z (view c.put.new.pass) (write_call i c.args.write) (λ (u : Unit {0}). reply.Ok) c.make_write-made.result _
     (late_comes (IsAny c.take_cached.new.cached × IsPrefix x.seen z.seen) (ReadLow v i z) (IsOfTranslator i) v z (write_call i c.args.write)

@@ -43,7 +43,7 @@ returns-in-Err-clause-comes g c v bare goes = let h = c.args.hands.now in
 pub returns-clause-hands : goal.returns-clause-hands
 returns-clause-hands g c = let m = c.args.machine.now in let q = c.requires in
     in_hand_written (setup m) (has_stamps m) (view c.args.pass.now) c.args.hands.now q.hands q.own c.args.write q.ends (view c.begin.new.pass) c.in-Ok.word
-    q.of.1 c.in-Ok.ensures.word.0 c.in-Ok.ensures.word.1 c.in-Some.mark c.in-Some.ensures c.desc.result.now.shape c.desc.ensures.shape _ refl refl refl refl
+    q.of.1 c.in-Ok.ensures.word.0 c.in-Ok.ensures.word.1 c.in-Some.mark c.in-Some.ensures c.desc.result.now.shape c.desc.ensures.shape _ refl refl refl
     (rw (c.deref_mut.ensures.value) at c.apply.ensures) c.change.ensures (view c.commit_marked.new.pass)
     (rw (c.call-call.ensures) at c.in-Ok-commit_marked.ensures.result.1)
 

@@ -1,4 +1,4 @@
-use Rattle.std.proofs.Common.{refl, sym, ◌∙◌, ap, subst, ℕ, Bool, List, [], ◌∷◌, ◌<◌, ◌≡◌}
+use Rattle.std.proofs.Common.{refl, ◌∙◌, ap, subst, ℕ, Bool, List, [], ◌∷◌, ◌<◌, ◌≡◌}
 use Rattle.its_types.specs.declared.ids.Vcpu.{Vcpu}
 use Rattle.its_types.specs.declared.machine.Part.TheVariants as part
 use Rattle.its_types.specs.declared.machine.Word.{Word}

@@ -1,4 +1,4 @@
-use Rattle.std.proofs.Common.{◌≡◌, sym, ◌∙◌}
+use Rattle.std.proofs.Common.{sym, ◌∙◌}
 use Rattle.owned_parts.specs.Owned.{conf_state, pend_state}
 use Rattle.its_turns.specs.Machines.{setup, view}
 use Rattle.gicr_lpi.proofs.Needs.{goes_pend}

@@ -1,4 +1,4 @@
-use Rattle.std.proofs.Common.{◌≡◌, sym, ◌∙◌}
+use Rattle.std.proofs.Common.{sym, ◌∙◌}
 use Rattle.its_types.specs.declared.machine.Part.TheVariants as part
 use Rattle.owned_parts.specs.Owned.{conf_state}
 use Rattle.its_steps.specs.Contents.{Conf}
@@ -33,6 +33,7 @@ returns-clause-goes g c = goes_conf (setup c.args.machine.now) c.args.access (vi
 
 pub returns-clause-hand : goal.returns-clause-hand
 returns-clause-hand g c = let s = setup c.args.machine.now in let a = c.args.access in let k = conf_state c.take_conf-conf.result.value in record {
+  places = tt;
   conf_lpis = c.take_conf-conf.ensures.lpis;
   pend_lpis = tt;
   low = low_bases s a.vcpu k (took_stood s (view c.args.pass.now) (view c.take_conf-conf.new.pass) (part.Conf a.vcpu) (Conf k)

@@ -14,6 +14,7 @@ returns-clause-goes g c = let memory = c.take_memory-memory.result.value in
 
 pub returns-clause-hand : goal.returns-clause-hand
 returns-clause-hand g c = let s = setup c.args.machine.now in let a = c.args.access in let k = conf_state c.take_conf-conf.result.value in record {
+  places = c.take_memory-memory.ensures.room;
   conf_lpis = c.take_conf-conf.ensures.lpis;
   pend_lpis = tt;
   low = low_bases s a.vcpu k (took_stood s (view c.take_memory-memory.new.pass) (view c.take_conf-conf.new.pass) (part.Conf a.vcpu) (Conf k)

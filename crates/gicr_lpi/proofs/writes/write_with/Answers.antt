@@ -1,15 +1,14 @@
-use Rattle.std.proofs.Common.{◌≡◌, Bool, List, refl, sym, ◌∙◌, ap}
+use Rattle.std.proofs.Common.{◌≡◌, Bool, sym, ◌∙◌, ap}
 use Rattle.its_plain.specs.Machine.{are_programmed, layout_of}
 use Rattle.its_plain.specs.declared.desc.Desc.{Desc}
 use Rattle.its_plain.specs.declared.layout.Layout.{Layout}
 use Rattle.its_plain.specs.declared.call.Reply.TheVariants as reply
-use Rattle.its_steps.specs.Contents.{Held}
 use Rattle.its_steps.specs.declared.change.ShardChange.TheVariants.{Keep}
 use Rattle.its_turns.specs.Machines.{setup, view}
 use Rattle.its_turns.specs.declared.machine.Machine.{Machine}
-use Rattle.its_turns.proofs.Telling.{may_here, owes_here, lost_held}
+use Rattle.its_turns.proofs.Telling.{may_here, owes_here}
 use Rattle.gicr_lpi.specs.Accesses.{write_call}
-use Rattle.gicr_lpi.specs.Hands.{HandState, state_of, held_of, after_write}
+use Rattle.gicr_lpi.specs.Hands.{state_of, held_of, after_write}
 use Rattle.gicr_lpi.proofs.Alone.{may_write}
 use Rattle.gicr_lpi.proofs.writes.write_with.Goals as goal
 
@@ -27,7 +26,7 @@ try_commit-requires-clause-may g c =
 pub put_hand-requires-clause-held : goal.put_hand-requires-clause-held
 put_hand-requires-clause-held g c =
     let m = c.args.machine.now in let s = setup m in let a = c.args.access in let h = state_of c.args.hand in
-    let so = is_so m c.are_programmed.result c.desc-desc.result.now c.desc-desc.ensures.layout c.are_programmed.ensures in
+    let so = is_so m c.are_programmed-programmed.result c.desc-desc.result.now c.desc-desc.ensures.layout c.are_programmed-programmed.ensures in
     let left : state_of c.written-hand.result ≡ after_write s.start.layout.gicr s.start.layout.shape a h =
     c.written-hand.ensures.after ∙ (λ d. after_write (so d) (c.desc-desc.ensures.shape d) a h) in
     owes_here s (write_call a) reply.Ok Keep (held_of a.vcpu h)

@@ -18,11 +18,11 @@ try_commit-requires-clause-may g c =
     let track = c.in-Ok.memory.value.track in
     rw (c.count-pages.ensures, c.deref.ensures) (may_here (setup m) call.Copy (reply.Copied (copy_count track)) Keep (one ws track)
     (λ _. one ws (option_map (caught_up ws) track)) (copies_now (setup m) ws track m.laid.1) x
-    (one_held v part.Mem (Mem ws track) x c.in-Ok.ensures.result.view c.requires.free))
+    (one_held v part.Mem (Mem ws track) x c.in-Ok.ensures.result.0.view c.requires.free))
 
 pub catch_up-requires : goal.catch_up-requires
 catch_up-requires g c = let m = c.args.machine.now in rw (c.deref_mut.ensures.value) (same_windows (setup m) c.in-Ok.memory.value.memory
-    c.in-Ok.memory.value.track (rw (c.requires.of.1) at c.in-Ok.ensures.result.stood))
+    c.in-Ok.memory.value.track (rw (c.requires.of.1) at c.in-Ok.ensures.result.0.stood))
 
 pub put-requires-clause-owed : goal.put-requires-clause-owed
 put-requires-clause-owed g c =
@@ -34,7 +34,7 @@ put-requires-clause-owed g c =
       before = [];
       last = owes_here (setup m) call.Copy (reply.Copied (copy_count track)) Keep (one ws track) (λ _. one ws (option_map (caught_up ws) track))
           (copies_now (setup m) ws track m.laid.1) x
-          (one_held v part.Mem (Mem ws track) x c.in-Ok.ensures.result.view c.requires.free) c.try_take_memory.ensures.of.1 c.in-Ok-try_commit.word
+          (one_held v part.Mem (Mem ws track) x c.in-Ok.ensures.result.0.view c.requires.free) c.try_take_memory.ensures.of.1 c.in-Ok-try_commit.word
           (view c.try_commit.new.pass)
           (rw (c.count-pages.ensures, c.deref.ensures) at c.in-Ok-try_commit.ensures.result);
     }
@@ -42,6 +42,6 @@ put-requires-clause-owed g c =
 pub returns-in-Err-try_commit-clause-answer : goal.returns-in-Err-try_commit-clause-answer
 returns-in-Err-try_commit-clause-answer g c = let v = view c.args.pass.now in let x = view c.try_take_memory.new.pass in let ws = c.in-Ok.memory.value.memory in
     let track = c.in-Ok.memory.value.track in
-    rw (c.attempt.ensures) (one_lost v part.Mem (Mem ws track) x c.in-Ok.ensures.result.view call.Copy (λ (n : ℕ). reply.Copied n)
+    rw (c.attempt.ensures) (one_lost v part.Mem (Mem ws track) x c.in-Ok.ensures.result.0.view call.Copy (λ (n : ℕ). reply.Copied n)
     c.in-Err-try_commit.lost (view c.try_commit.new.pass) (view c.put-in-Err-try_commit.new.pass)
     c.in-Err-try_commit.ensures.result c.put-in-Err-try_commit.ensures.view)

@@ -1,6 +1,5 @@
-use Rattle.std.proofs.Common.{◌≡◌, refl, ap, ◌∙◌, [], Option}
+use Rattle.std.proofs.Common.{◌≡◌, refl, ap, ◌∙◌, []}
 use Rattle.guest_windows.specs.Windows.{write_at}
-use Rattle.dirty_log.specs.declared.tracked.Tracked.{Tracked}
 use Rattle.its_types.specs.declared.machine.Part.TheVariants as part
 use Rattle.its_plain.specs.declared.call.Reply.{Reply}
 use Rattle.its_plain.specs.Answer.{poke_reply}
@@ -22,7 +21,7 @@ try_commit-requires-clause-may g c =
     rw (c.call-call.ensures, c.poke_answer-reply.ensures.answer, c.deref.ensures, same) (may_here (setup m) (write_of c.args.writer addr bytes) a Keep
     (one ws track)
     (λ _. one_written ws track addr.0 bytes) (writes_now (setup m) ws track m.laid.1 c.args.writer addr bytes) x
-    (one_held v part.Mem (Mem ws track) x c.in-Ok.ensures.result.view c.requires.free))
+    (one_held v part.Mem (Mem ws track) x c.in-Ok.ensures.result.0.view c.requires.free))
 
 pub put-requires-in-Ok-try_commit-clause-owed : goal.put-requires-in-Ok-try_commit-clause-owed
 put-requires-in-Ok-try_commit-clause-owed g c =
@@ -32,11 +31,11 @@ put-requires-in-Ok-try_commit-clause-owed g c =
     let still : c.prepare.new.guest.track ≡ track = c.prepare.ensures.track ∙ ap (λ (k : GuestMemory). k.track) c.deref_mut.ensures.value in
     record {
       content = poked_content ws track addr.0 bytes (write_at ws addr.0 bytes);
-      content_is = rw (c.write_bytes.ensures, c.deref_mut-in-Ok-try_commit.ensures.value, same, still) refl;
+      content_is = rw (c.write_bytes.ensures.written, c.deref_mut-in-Ok-try_commit.ensures.value, same, still) refl;
       before = [];
       last = owes_here (setup m) (write_of c.args.writer addr bytes) a Keep (one ws track) (λ _. one_written ws track addr.0 bytes)
           (writes_now (setup m) ws track m.laid.1 c.args.writer addr bytes) x
-          (one_held v part.Mem (Mem ws track) x c.in-Ok.ensures.result.view c.requires.free) c.try_take_memory.ensures.of.1 c.in-Ok-try_commit.word
+          (one_held v part.Mem (Mem ws track) x c.in-Ok.ensures.result.0.view c.requires.free) c.try_take_memory.ensures.of.1 c.in-Ok-try_commit.word
           (view c.try_commit.new.pass)
           (rw (c.call-call.ensures, c.poke_answer-reply.ensures.answer, c.deref.ensures, same) at c.in-Ok-try_commit.ensures.result);
     }
@@ -44,6 +43,6 @@ put-requires-in-Ok-try_commit-clause-owed g c =
 pub returns-in-Err-try_commit-clause-answer : goal.returns-in-Err-try_commit-clause-answer
 returns-in-Err-try_commit-clause-answer g c = let v = view c.args.pass.now in let x = view c.try_take_memory.new.pass in let ws = c.in-Ok.memory.value.memory in
     let track = c.in-Ok.memory.value.track in
-    rw (c.attempt.ensures) (one_lost v part.Mem (Mem ws track) x c.in-Ok.ensures.result.view (write_of c.args.writer c.args.addr c.args.bytes.now)
+    rw (c.attempt.ensures) (one_lost v part.Mem (Mem ws track) x c.in-Ok.ensures.result.0.view (write_of c.args.writer c.args.addr c.args.bytes.now)
     (λ (k : Reply). k) c.in-Err-try_commit.lost (view c.try_commit.new.pass) (view c.put-in-Err-try_commit.new.pass)
     c.in-Err-try_commit.ensures.result c.put-in-Err-try_commit.ensures.view)

@@ -1,4 +1,4 @@
-use Rattle.std.proofs.Common.{◌≡◌}
+use Rattle.std.proofs.Common.{◌≡◌, ◌≤◌, ◌-◌, length}
 use Rattle.lpi_pending.specs.InHand.{HasLpisOfConf}
 use Rattle.its_turns.specs.Machines.{setup, view, IsOf}
 use Rattle.held_parts.specs.Redists.{conf_held, IsConfIn}
@@ -6,12 +6,17 @@ use Rattle.held_parts.specs.Taking.{TakesOnly}
 use Rattle.held_parts.proofs.RedistLoops.{AreTaken}
 use Rattle.held_parts.proofs.confs.take_confs.Given as goal
 
-abbrev pub invariant-loop-vcpu : goal.invariant-loop-vcpu
-invariant-loop-vcpu g l = record {
+abbrev pub invariant-loop-next : goal.invariant-loop-next
+invariant-loop-next g l = record {
   of : IsOf l.machine l.pass;
   takes : TakesOnly (IsConfIn l.set) (view l.fn.pass) (view l.pass);
-  taken : AreTaken conf_held (HasLpisOfConf (setup l.machine).start.layout.shape) (setup l.machine) l.set l.vcpu l.redists.confs
+  within : l.next ≤ l.vcpus;
+  taken : AreTaken conf_held (HasLpisOfConf (setup l.machine).start.layout.shape) (setup l.machine) l.set l.next l.redists.confs
       (view l.fn.pass).held (view l.pass).held;
+  room : length l.redists.confs ≡ length l.fn.redists.confs;
   pends : l.redists.pends ≡ l.fn.redists.pends;
   allowed : g.T.Turns.allowed (view l.pass);
 }
+
+abbrev pub decreases-loop-next : goal.decreases-loop-next
+decreases-loop-next g l = l.vcpus - l.next

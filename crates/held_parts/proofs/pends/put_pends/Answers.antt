@@ -1,70 +1,71 @@
-use Rattle.std.proofs.Common.{arith, ap, sym, ◌∙◌, refl, ◌≡◌, ◌-◌, ◌+◌, ◌&&◌, ℕ, suc, nat_lt, List}
+use Rattle.std.proofs.Common.{arith, ap, sym, ◌∙◌, refl, List, Option}
+use Rattle.std.specs.Prelude.{is_some}
 use Rattle.lpi_pending.specs.InHand.{pend_state}
+use Rattle.lpi_pending.specs.Pend.{Pend as PendInHand}
 use Rattle.lpi_pending.specs.InHand.{RedistParts, HasLpisOfPend}
-use Rattle.owned_parts.specs.RedistSets.{is_in}
 use Rattle.its_steps.specs.Contents.{Held, Pend}
 use Rattle.its_steps.specs.World.{View}
 use Rattle.its_turns.specs.Contents.{held_before}
 use Rattle.its_turns.specs.Machines.{setup, view}
 use Rattle.its_turns.specs.Told.{released}
-use Rattle.held_parts.specs.Redists.{row_of, pend_held, held_if_in, pends_held}
+use Rattle.held_parts.specs.Redists.{pend_held, pends_held}
 use Rattle.held_parts.specs.Taking.{holding}
-use Rattle.held_parts.proofs.InRows.{row_first, row_skips, row_none}
-use Rattle.held_parts.proofs.RedistLoops.{all_left, only_first, one_left, none_left, not_in_hand}
+use Rattle.held_parts.proofs.RedistLoops.{all_left, all_home, is_in_hand, none_before, highest_first, highest_left}
 use Rattle.held_parts.proofs.pends.put_pends.Goals as goal
-use Rattle.held_parts.proofs.pends.put_pends.Goals.{then-is_wanted, else-is_wanted}
 
-pub put-requires-clause-owed : goal.put-requires-clause-owed
-put-requires-clause-owed c = let old = c.args.redists.now in let before = c.requires.held.0 in let l = c.loop-k in let n = c.vcpus-vcpus.result in
-    let k = n - 1 - l.k in let r = c.take_pend-pend.result.value in record {
-      content = Pend (pend_state r);
-      content_is = refl;
-      before = pends_held old k before;
-      last = ap (λ (y : View). y.held) (l.invariant.home before c.requires.held.1)
-          ∙ row_first (row_of pend_held old.pends) before (n - l.k) k (pend_held k r) (omega (arith, c.loop-k-test.true))
-          (ap (held_if_in pend_held k) (sym (l.invariant.left.below k (omega (arith, c.loop-k-test.true))) ∙ c.take_pend-pend.ensures.value));
-    }
-
-pub loop-k-init : goal.loop-k-init
-loop-k-init c = let s = setup c.args.machine.now in let n = c.vcpus-vcpus.result in let few = c.vcpus-vcpus.ensures.most in
-    let z : n - 0 ≡ n = omega arith in
-    rw (z) record {
+pub loop-vcpu-init : goal.loop-vcpu-init
+loop-vcpu-init c = let s = setup c.args.machine.now in let are = c.vcpus-end.ensures.vcpus in
+    record {
       of = c.requires.of;
-      home = λ before is. ap (λ (h : List Held). holding (view c.args.pass.now) h) (is
-          ∙ only_first pend_held (HasLpisOfPend s.start.layout.shape) s c.args.set n c.args.redists.now.pends before c.vcpus-vcpus.ensures.vcpus few
-          c.requires.hand);
-      left = all_left pend_held (HasLpisOfPend s.start.layout.shape) s c.args.set n c.args.redists.now.pends c.vcpus-vcpus.ensures.vcpus c.requires.hand;
+      home = λ before is. ap (λ (h : List Held). holding (view c.args.pass.now) h) (is ∙ ap (λ n. pends_held c.args.redists.now n before) (sym are));
+      within = omega (arith, are);
+      left = all_left pend_held (HasLpisOfPend s.start.layout.shape) s c.args.set c.vcpus-end.result c.args.redists.now.pends are c.requires.hand;
+      room = refl;
       confs = refl;
     }
 
-pub loop-k-preserved : goal.loop-k-preserved
-loop-k-preserved c = let s = setup c.args.machine.now in let l = c.loop-k in let old = c.args.redists.now in let n = c.vcpus-vcpus.result in
-    let k = n - 1 - l.k in
-    let e : n - (l.k + 1) ≡ k = omega (arith, c.loop-k-test.true) in
-    let next : n - l.k ≡ suc k = omega (arith, c.loop-k-test.true) in
-    elim c.if-is_wanted.branch [
-      | then-is_wanted w ↦ let r = w.take_pend-pend.result.value in rw (w.pass-is, w.redists-is, e) record {
-        of = w.put.ensures.of;
-        home = λ before is. w.put.ensures.view ∙ (ap released (l.invariant.home before is)
-            ∙ ap (λ (h : List Held). holding (view c.args.pass.now) (held_before h)) (row_first (row_of pend_held old.pends) before (n - l.k) k (pend_held k r)
-            next (ap (held_if_in pend_held k) (sym (l.invariant.left.below k (omega (arith, next))) ∙ w.take_pend-pend.ensures.value))));
-        left = rw (w.take_pend-pend.ensures.taken) (one_left (n - l.k) k old.pends l.redists.pends next l.invariant.left);
-        confs = ap (λ (x : RedistParts). x.confs) w.take_pend-pend.ensures.taken ∙ l.invariant.confs;
-      }
-      | else-is_wanted w ↦
-          let out = not_in_hand pend_held (HasLpisOfPend s.start.layout.shape) s c.args.set old.pends k c.requires.hand
-          (ap (λ (n : ℕ). is_in c.args.set k && nat_lt k n)
-          (sym c.vcpus-vcpus.ensures.vcpus) ∙ (sym c.is_wanted.ensures ∙ w.if-is_wanted.false)) in
-          rw (w.pass-is, w.redists-is, e) record {
-            of = l.invariant.of;
-            home = λ before is. l.invariant.home before is ∙ ap (λ (h : List Held). holding (view c.args.pass.now) h)
-                (row_skips (row_of pend_held old.pends) before (n - l.k) k next (ap (held_if_in pend_held k) out));
-            left = none_left (n - l.k) k old.pends l.redists.pends next l.invariant.left out;
-            confs = l.invariant.confs;
-          }
-    ]
+pub take_pend-pend-requires : goal.take_pend-pend-requires
+take_pend-pend-requires c = let s = setup c.args.machine.now in let l = c.loop-vcpu in let vcpu = c.in-Some.vcpu in let is = c.in-Some.ensures in
+    ap (λ (o : Option PendInHand). is_some o) (l.invariant.left.below vcpu is.below)
+    ∙ is_in_hand pend_held (HasLpisOfPend s.start.layout.shape) s c.args.set c.args.redists.now.pends vcpu c.requires.hand is.has
+    (omega (arith, is.below, l.invariant.within))
+
+pub put-requires-clause-owed : goal.put-requires-clause-owed
+put-requires-clause-owed c =
+    let s = setup c.args.machine.now in let old = c.args.redists.now in let before = c.requires.held.0 in let l = c.loop-vcpu in
+    let vcpu = c.in-Some.vcpu in let is = c.in-Some.ensures in let r = c.take_pend-pend.result.value in
+    record {
+      content = Pend (pend_state r);
+      content_is = refl;
+      before = pends_held old vcpu before;
+      last = ap (λ (y : View). y.held) (l.invariant.home before c.requires.held.1)
+          ∙ highest_first pend_held (HasLpisOfPend s.start.layout.shape) s c.args.set old.pends l.end vcpu c.requires.hand is.below is.none before r
+          (sym (l.invariant.left.below vcpu is.below) ∙ c.take_pend-pend.ensures.value);
+    }
+
+pub loop-vcpu-preserved : goal.loop-vcpu-preserved
+loop-vcpu-preserved c =
+    let s = setup c.args.machine.now in let l = c.loop-vcpu in let old = c.args.redists.now in
+    let vcpu = c.in-Some.vcpu in let is = c.in-Some.ensures in let r = c.take_pend-pend.result.value in
+    record {
+      of = c.put.ensures.of;
+      home = λ before e. c.put.ensures.view ∙ (ap released (l.invariant.home before e)
+          ∙ ap (λ (h : List Held). holding (view c.args.pass.now) (held_before h))
+          (highest_first pend_held (HasLpisOfPend s.start.layout.shape) s c.args.set old.pends l.end vcpu c.requires.hand is.below is.none before r
+          (sym (l.invariant.left.below vcpu is.below) ∙ c.take_pend-pend.ensures.value)));
+      within = omega (arith, is.below, l.invariant.within);
+      left = rw (c.take_pend-pend.ensures.taken) (highest_left pend_held (HasLpisOfPend s.start.layout.shape) s c.args.set old.pends l.end vcpu
+          c.requires.hand is.below is.none l.redists.pends l.invariant.left);
+      room = c.take_pend-pend.ensures.room ∙ l.invariant.room;
+      confs = ap (λ (x : RedistParts). x.confs) c.take_pend-pend.ensures.taken ∙ l.invariant.confs;
+    }
+
+pub returns-clause-empty : goal.returns-clause-empty
+returns-clause-empty c = let s = setup c.args.machine.now in let l = c.loop-vcpu in
+    all_home pend_held (HasLpisOfPend s.start.layout.shape) s c.args.set c.args.redists.now.pends l.redists.pends l.end c.requires.hand c.in_default.ensures
+    l.invariant.left
 
 pub returns-clause-home : goal.returns-clause-home
-returns-clause-home c = let l = c.loop-k in let n = c.vcpus-vcpus.result in λ before is. l.invariant.home before is
+returns-clause-home c = let s = setup c.args.machine.now in let l = c.loop-vcpu in λ before e. l.invariant.home before e
     ∙ ap (λ (h : List Held). holding (view c.args.pass.now) h)
-    (row_none (row_of pend_held c.args.redists.now.pends) before (n - l.k) (omega (arith, c.loop-k-test.false)))
+    (none_before pend_held (HasLpisOfPend s.start.layout.shape) s c.args.set c.args.redists.now.pends before l.end c.requires.hand c.in_default.ensures)

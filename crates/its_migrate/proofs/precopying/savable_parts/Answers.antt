@@ -2,6 +2,7 @@ use Rattle.std.proofs.Common.{ap, sym, ◌∙◌}
 use Rattle.its_plain.specs.Plain.{Plain}
 use Rattle.its_plain.specs.Regions.{savable}
 use Rattle.its_turns.specs.Machines.{setup, view}
+use Rattle.held_parts.specs.Wholes.{redists_in}
 use Rattle.its_migrate.proofs.Taken.{lent_hand, taken_hand, taken_rest, rests_again}
 use Rattle.its_migrate.proofs.Left.{unpacked_state, unpacked_taken, cause_at}
 use Rattle.its_migrate.proofs.precopying.savable_parts.Goals as goal
@@ -10,7 +11,7 @@ pub savable-requires-clause-parts : goal.savable-requires-clause-parts
 savable-requires-clause-parts c =
     let m = c.args.machine.now in
     let x = c.take_whole-whole.result in
-    lent_hand c.in_place.result c.in_ok-layout.layout x.redists c.in_place.ensures.layout c.in_place.ensures.redists
+    lent_hand c.in_place.result c.in_ok-layout.layout (redists_in x) c.in_place.ensures.layout c.in_place.ensures.redists
     (taken_hand (setup m) (view c.args.root.now) (view c.take_whole-whole.new.pass) x c.take_whole-whole.ensures.takes c.in_ok-layout.layout
     (c.in_ok-layout.ensures ∙ c.desc.ensures.layout))
 

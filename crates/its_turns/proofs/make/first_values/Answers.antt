@@ -3,15 +3,16 @@ use Rattle.std.specs.List.{range_with_len}
 use Rattle.std.specs.Option.{is_some}
 use mathlib.Core.Option.{some}
 use Rattle.lpi_config.specs.Conf.{conf_state}
-use Rattle.lpi_config.specs.declared.conf.Conf.{Conf as ConfInHand}
+use Rattle.lpi_config.specs.Conf.{Conf as ConfInHand}
 use Rattle.lpi_pending.specs.InHand.{pend_state, HasLpisOfConf, HasLpisOfPend}
-use Rattle.lpi_pending.specs.declared.pend.Pend.{Pend as PendInHand}
+use Rattle.lpi_pending.specs.Pend.{Pend as PendInHand}
 use Rattle.owned_parts.specs.Owned.{conf_or, pend_or, state_of_parts, translators_of}
 use Rattle.its_steps.specs.Contents.{Conf, Pend}
 use Rattle.its_steps.proofs.Lists.{all_snoc}
 use Rattle.its_turns.specs.Contents.{IsFit}
 use Rattle.its_turns.specs.Opening.{setup_from}
 use Rattle.its_turns.proofs.Opening.{front, conf_shown, pend_shown, with_memory, next_shard, next_listed, all_values, maps_long, most_maps, later_same, same_some}
+use Rattle.its_turns.proofs.Places.{all_empty}
 use Rattle.its_turns.proofs.make.first_values.Goals as goal
 
 pub overflow_mul-shards : goal.overflow_mul-shards
@@ -26,7 +27,8 @@ loop-shard-init c =
     let are = c.in_ok-values.ensures in
     rw (c.in_ok-push.ensures.items) (
       with_memory (state_of_parts p) c.in_ok-values.values.items _ are (search rules),
-      all_snoc (IsFit (setup_from c.args.desc.now p)) c.in_ok-values.values.items _ (are.fit (setup_from c.args.desc.now p)) tt,
+      all_snoc (IsFit (setup_from c.args.desc.now p)) c.in_ok-values.values.items _ (are.fit (setup_from c.args.desc.now p))
+          (all_empty p.layout.shape.vcpus _ (search rules)),
     )
 
 pub loop-shard-preserved : goal.loop-shard-preserved

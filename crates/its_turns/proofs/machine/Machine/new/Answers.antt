@@ -1,11 +1,11 @@
 use Rattle.std.proofs.Common.{rules, arith, ◌≡◌, ℕ, ◌+◌, ◌*◌, ◌<◌, ◌≤◌, ◌^◌, List, length, replicate, ap, sym, ◌∙◌, subst}
 use Rattle.atomic_table.specs.Table.{opening}
+use Rattle.its_types.specs.Ranges.{most_vcpus}
 use Rattle.its_plain.specs.Machine.{layout_of}
 use Rattle.its_plain.specs.declared.desc.Desc.{Desc}
 use Rattle.its_plain.specs.declared.layout.Layout.{Layout}
 use Rattle.its_steps.specs.Parts.{HasVcpus, Setup, part_count, translator_count, vcpu_count}
 use Rattle.its_steps.specs.World.{first_view}
-use Rattle.lpi_pending.specs.InHand.{RedistParts}
 use Rattle.owned_parts.specs.declared.parts.Parts.{Parts}
 use Rattle.its_turns.specs.Opening.{setup_from, first_words}
 use Rattle.its_turns.specs.Rule.{Kept, setup_of}
@@ -77,8 +77,7 @@ invariant_of-result c =
         omega (arith, before, shards, few, some_number.1),
       );
       shifted = omega (arith, translators, some_number.0);
-      small = subst (λ (d : Desc). (1 ≤ d.shards) × (d.shards ≤ 64) × (d.shape.vcpus ≤ 16) × (d.limits.place_last < 2 ^ 40) × (d.limits.stamp_last < 2 ^ 24))
+      small = subst (λ (d : Desc). (1 ≤ d.shards) × (d.shards ≤ 64) × (d.shape.vcpus ≤ most_vcpus) × (d.limits.place_last < 2 ^ 40) × (d.limits.stamp_last < 2 ^ 24))
           (sym c.in_ok-frame.ensures.desc)
           (c.requires.some_shards, c.requires.most_shards, c.requires.vcpus, c.requires.places, c.requires.stamps);
-      bare = (ap (λ (r : RedistParts). r.confs) c.new.ensures, ap (λ (r : RedistParts). r.pends) c.new.ensures);
     }
