@@ -94,6 +94,16 @@ The line is `write OFF SIZE VALUE`.
 ",
         ),
         (
+            "vcpus 2",
+            "processors 16",
+            "    processors 16
+               ^
+line 1, field 2: \"16\" is out of range
+Here stands the count, 17 to 512.
+The line is `processors N`.
+",
+        ),
+        (
             "shards 4",
             "shards 3",
             "    shards 3
@@ -137,7 +147,7 @@ fn places_of_lines_are_explained(rt: HostRuntime) {
             "",
             "    shards 4
     ^
-line 1: `vcpus` has to come first
+line 1: `vcpus` or `processors` has to come first
 ",
         ),
         (
@@ -146,6 +156,23 @@ line 1: `vcpus` has to come first
             "    shards 4
     ^
 line 3: line 2 has `shards` already, and it stands once
+",
+        ),
+        (
+            "shards 4\n",
+            "processors 20\nshards 4\n",
+            "    processors 20
+    ^
+line 2: line 1 says already how many processors there are
+",
+        ),
+        (
+            "vcpus 2\n",
+            "processors 512\n",
+            "    phase
+    ^
+line 8: the description isn't whole; these are missing:
+    `pending 2 ADDR`, `pending 3 ADDR`, `pending 4 ADDR`, `pending 5 ADDR`, `pending 6 ADDR`, `pending 7 ADDR`, `pending 8 ADDR`, `pending 9 ADDR`, `pending 10 ADDR`, `pending 11 ADDR`, `pending 12 ADDR`, `pending 13 ADDR`, `pending 14 ADDR`, `pending 15 ADDR`, `pending 16 ADDR`, `pending 17 ADDR`, and those of 494 more
 ",
         ),
         (
@@ -197,9 +224,9 @@ line 22: `signal` stands in a thread, after `phase` and `thread`
 line 13: \"mapd\" begins no line
 It is the word of a command, which stands after `command ADDR`.
 Lines of the description begin with
-    vcpus, shards, limits, ids, profile, window, config, pending, gicr, linux, pair,
-    track, its-base, b-base, requester, bytes, word, restore, brestore, rrestore,
-    from-kvm
+    vcpus, processors, shards, limits, ids, profile, window, config, pending, gicr,
+    linux, pair, track, its-base, b-base, requester, bytes, word, restore, brestore,
+    rrestore, from-kvm
 those of the body with
     phase, thread, migrate, precopy, end
 calls with

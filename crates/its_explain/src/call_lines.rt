@@ -70,7 +70,7 @@ pub fn nth_line<'a>(input: &'a [u8], name: &str, n: u64) -> Option<(u64, &'a [u8
 }
 
 /// The line of the description that begins with a word and names a processor.
-pub fn line_of_processor<'a>(input: &'a [u8], name: &str, vcpu: u8) -> Option<(u64, &'a [u8])> {
+pub fn line_of_processor<'a>(input: &'a [u8], name: &str, vcpu: u16) -> Option<(u64, &'a [u8])> {
     let mut at = 1u64;
     for line in input.split(|b| *b == b'\n') {
         let (first, second) = first_words(line);

@@ -79,7 +79,7 @@ impl<'a> Context<'a> {
     /// Keeps the line, if none like it came.
     fn note(&mut self, line: u64, word: &'a [u8], second: &'a [u8]) -> Result<(), AllocError> {
         let number = number(second);
-        if word == b"vcpus".as_slice() {
+        if is_count(word) {
             self.vcpus = number.unwrap_or(0);
         }
         let known = if is_of_processor(word) {
@@ -103,6 +103,16 @@ impl<'a> Context<'a> {
         None
     }
 
+    /// The line that said how many virtual processors there are.
+    pub fn line_of_count(&self) -> Option<u64> {
+        for seen in &self.seen {
+            if is_count(seen.word) {
+                return Some(seen.line);
+            }
+        }
+        None
+    }
+
     /// The first line of a word that named a processor.
     pub fn line_of_processor(&self, word: &[u8], processor: Option<u64>) -> Option<u64> {
         for seen in &self.seen {
@@ -112,6 +122,11 @@ impl<'a> Context<'a> {
         }
         None
     }
+}
+
+/// Whether a line with this word says how many virtual processors there are.
+fn is_count(word: &[u8]) -> bool {
+    word == b"vcpus".as_slice() || word == b"processors".as_slice()
 }
 
 /// Whether each processor has a line of its own with this word.

@@ -1,4 +1,6 @@
 //! The lines of a script, by their first words: what may stand in each field.
+use event_script::FEW_VCPUS;
+use its_types::MOST_VCPUS;
 
 /// What may stand in a field.
 #[derive(Clone, Copy)]
@@ -31,8 +33,9 @@ pub struct Form {
 }
 
 /// The first words of a description's lines.
-pub const DESCRIPTION: [&str; 21] = [
+pub const DESCRIPTION: [&str; 22] = [
     "vcpus",
+    "processors",
     "shards",
     "limits",
     "ids",
@@ -80,6 +83,10 @@ const BASES: u64 = 18_446_744_073_709_486_080;
 
 const TABLES: u64 = 4_503_599_627_370_240;
 
+const FEW: Slot = Slot::Number("the count", 1, FEW_VCPUS);
+
+const MANY: Slot = Slot::Number("the count", FEW_VCPUS + 1, MOST_VCPUS as u64);
+
 const ADDRESS: Slot = Slot::Number("an address", 0, U64);
 
 const DEVICE: Slot = Slot::Number("a DeviceID", 0, U32);
@@ -123,7 +130,8 @@ fn written(text: &'static str, slots: &'static [Slot]) -> Form {
 /// A line of a description that has fields.
 fn described_form(word: &str) -> Option<Form> {
     match word {
-        "vcpus" => Some(written("vcpus N", &[Slot::Number("the count", 1, 16)])),
+        "vcpus" => Some(written("vcpus N", &[FEW])),
+        "processors" => Some(written("processors N", &[MANY])),
         "shards" => Some(written("shards N", &[Slot::Shards])),
         "limits" => Some(written(
             "limits STAMP PLACE",

@@ -61,7 +61,7 @@ fn lpi_numbers(desc: &Desc) -> u64 {
         .unwrap_or(0)
 }
 
-fn push_pending(out: &mut String, input: &[u8], desc: &Desc, vcpu: u8) -> Result<(), AllocError> {
+fn push_pending(out: &mut String, input: &[u8], desc: &Desc, vcpu: u16) -> Result<(), AllocError> {
     push_described(out, line_of_processor(input, "pending", vcpu))?;
     let bytes = lpi_numbers(desc) / 8;
     writeln!(

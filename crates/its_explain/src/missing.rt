@@ -27,9 +27,9 @@ pub fn push_missing(out: &mut String, faulty: &Faulty) -> Result<(), AllocError>
 fn push_end(out: &mut String, context: &Context) -> Result<(), AllocError> {
     match context.stage {
         Stage::Ended => out.push_str("after `end` no line `trace` comes, and no report\n"),
-        Stage::Description if context.line_of(b"vcpus").is_none() => {
-            out.push_str("the input stops here; `vcpus` has to come first, and `end` last\n")
-        }
+        Stage::Description if context.line_of_count().is_none() => out.push_str(
+            "the input stops here; `vcpus` or `processors` has to come first, and `end` last\n",
+        ),
         _ => out.push_str("the input stops here, and `end` is missing\n"),
     }
 }
@@ -56,13 +56,23 @@ fn push_description(out: &mut String, context: &Context) -> Result<(), AllocErro
     push_pending(out, context, between)
 }
 
+/// How many of the missing lines of pending tables are written out.
+const MOST_WRITTEN: u64 = 16;
+
 fn push_pending(out: &mut String, context: &Context, first: &str) -> Result<(), AllocError> {
     let mut between = first;
+    let mut missing = 0u64;
     for vcpu in 0..context.vcpus {
         if context.line_of_processor(b"pending", Some(vcpu)).is_none() {
-            write!(out, "{between}`pending {vcpu} ADDR`")?;
-            between = ", ";
+            missing = missing.saturating_add(1);
+            if missing <= MOST_WRITTEN {
+                write!(out, "{between}`pending {vcpu} ADDR`")?;
+                between = ", ";
+            }
         }
     }
-    Ok(())
+    match missing.saturating_sub(MOST_WRITTEN) {
+        0 => Ok(()),
+        others => write!(out, ", and those of {others} more"),
+    }
 }

@@ -40,8 +40,8 @@ fn push_trace(out: &mut String, context: &Context) -> Result<(), AllocError> {
 /// Among the lines of the description.
 fn push_described(out: &mut String, faulty: &Faulty, name: &str) -> Result<(), AllocError> {
     let context = &faulty.context;
-    if context.line_of(b"vcpus").is_none() {
-        return out.push_str("`vcpus` has to come first\n");
+    if context.line_of_count().is_none() {
+        return out.push_str("`vcpus` or `processors` has to come first\n");
     }
     if STRUCTURE.contains(&name) && name != "precopy" {
         return writeln!(
@@ -82,6 +82,7 @@ fn push_again(out: &mut String, faulty: &Faulty, name: &str, line: u64) -> Resul
 /// What a line of a description needs, or goes with.
 fn push_needs(out: &mut String, context: &Context, name: &str) -> Result<(), AllocError> {
     match name {
+        "vcpus" | "processors" => push_one_count(out, context),
         "b-base" | "brestore" => writeln!(out, "`{name}` needs a line `pair` before it"),
         "rrestore" if context.line_of(b"gicr").is_none() => {
             out.push_str("`rrestore` needs a line `gicr` before it\n")
@@ -91,6 +92,15 @@ fn push_needs(out: &mut String, context: &Context, name: &str) -> Result<(), All
         "gicr" => out.push_str("`gicr` doesn't go with `config` and `pending` lines\n"),
         _ => writeln!(out, "`{name}` may not stand here"),
     }
+}
+
+/// A line that says how many processors there are, after the other one that does.
+fn push_one_count(out: &mut String, context: &Context) -> Result<(), AllocError> {
+    let line = context.line_of_count().unwrap_or(0);
+    writeln!(
+        out,
+        "line {line} says already how many processors there are"
+    )
 }
 
 fn push_with_gicr(out: &mut String, context: &Context, name: &str) -> Result<(), AllocError> {

@@ -4,7 +4,7 @@ use crate::sources::Sources;
 use call_facts::Key;
 use its_command::Command;
 use its_plain::Reason;
-use its_types::{DeviceId, EventId, Icid, Vcpu, field};
+use its_types::{DeviceId, EventId, Icid, MOST_VCPUS, Vcpu, field};
 use std::alloc::AllocError;
 use std::fmt::Write;
 
@@ -262,8 +262,8 @@ fn targets_of(sources: &Sources, its: u8, command: &Command) -> (Option<Vcpu>, O
 }
 
 fn vcpu_of(number: u64) -> Option<Vcpu> {
-    if number < 16 {
-        Some(Vcpu(number as u8))
+    if number < u64::from(MOST_VCPUS) {
+        Some(Vcpu(number as u16))
     } else {
         None
     }

@@ -108,5 +108,5 @@ fn bases_there(parts: &Parts, vcpu: Vcpu) -> Bases
     requires below { vcpu.0 < parts.now.layout.shape.vcpus }
     ensures { result ≡ (redistributor (state_of_parts parts.now) vcpu.0).bases }
 {
-    parts.redists.conf(vcpu).bases
+    *parts.redists.conf(vcpu).bases()
 }

@@ -1,5 +1,5 @@
 -- A script with a line `gicr` and no line `rrestore` restores no redistributor with LPIs on.
-use Rattle.std.proofs.Common.{◌≡◌, ◌⊎◌, ℕ, zero, suc, ◌+◌, Bool, true, false, ◌||◌, nat_eq, List, [], ◌∷◌, length, codes, Option, Some, None, replicate}
+use Rattle.std.proofs.Common.{◌≡◌, ◌⊎◌, ℕ, ◌+◌, Bool, true, false, ◌||◌, nat_eq, List, [], ◌∷◌, length, codes, Option, Some, None}
 use Rattle.std.proofs.Common.{if◌then◌else◌, Result, Ok, Err, IfOk, inl, inr, refl, sym, ap, subst, ◌∙◌, arith}
 use Rattle.std.specs.Prelude.{slice_index}
 use Rattle.std.specs.List.{AllByRecursion, list_any}
@@ -8,7 +8,6 @@ use Rattle.std.specs.Str.{bytes_eq}
 use Rattle.std.proofs.lemmas.Bool.{both_ways, cases_Bool, eqb-true, or_cases}
 use Rattle.std.proofs.lemmas.Slice.Eq.{bytes_eq-Decides}
 use Rattle.gicr_regs.specs.declared.values.GicrRegisters.{GicrRegisters}
-use Rattle.gicr_regs.specs.declared.values.GicrValues.{GicrValues}
 use Rattle.its_types.specs.Bits.{bit_of}
 use Rattle.its_plain.specs.declared.desc.Desc.{Desc}
 use Rattle.its_plain.specs.declared.desc.LpiTables.{LpiTables}
@@ -17,9 +16,9 @@ use Rattle.event_script.specs.Text.{parts, fields, is_text}
 use Rattle.event_script.specs.Fields.{arg}
 use Rattle.event_script.specs.Words.{keyword_text, keyword_of, call_text, call_word_of}
 use Rattle.event_script.specs.Outcome.{ensure}
-use Rattle.event_script.specs.Description.{empty, is_ended, no_registers}
+use Rattle.event_script.specs.Description.{empty, is_ended}
 use Rattle.event_script.specs.Body.{call_word_line, keyword_line}
-use Rattle.event_script.specs.Described.{described_tables, tables_of, desc_of}
+use Rattle.event_script.specs.Described.{described_tables, registers_of, tables_of, desc_of}
 use Rattle.event_script.specs.Script.{is_skipped, other_line, words_line, line, said, script_from, finished, at_line, ◌then◌, parts_from}
 use Rattle.event_script.specs.Script.{script_of}
 use Rattle.event_script.specs.declared.fault.Kind.{Kind}
@@ -34,7 +33,7 @@ use Rattle.event_script.proofs.Tables.{keyword_has_word}
 use Rattle.event_script.proofs.Steps.{bound, bound_by, ensured, chosen}
 use Rattle.lpi_enabling.specs.Enabling.{RestoresOff}
 use Rattle.its_top.specs.Lines.{begins_with, StartsOff}
-use Rattle.its_top.proofs.Drafts.{Follows, same, IsOther, call_follows, line_follows, gicr_follows}
+use Rattle.its_top.proofs.Drafts.{AreNone, Follows, same, IsOther, call_follows, line_follows, gicr_follows}
 
 -- ---- words
 
@@ -45,6 +44,7 @@ other_by word on.Rrestore none e =
     let is : codes "rrestore" ≡ word = (bytes_eq-Decides (codes "rrestore") word).0 e in
     absurd (both_ways (bytes_eq word (codes "rrestore")) none ((bytes_eq-Decides word (codes "rrestore")).1 (sym is)))
 other_by word on.Vcpus none e = tt
+other_by word on.Processors none e = tt
 other_by word on.Shards none e = tt
 other_by word on.Limits none e = tt
 other_by word on.Ids none e = tt
@@ -153,28 +153,31 @@ line_keeps d n text none =
 
 -- ---- the script
 
-abbrev AreOff : GicrValues → Type 0
-AreOff values = AllByRecursion (λ (r : GicrRegisters). bit_of r.ctlr 0 ≡ false) values.registers
-
 abbrev IsOffScript : Script → Type 0
 IsOffScript s = RestoresOff s.desc.tables
 
-tables_off : (d : Draft) (gicr : Bool) → gicr ≡ true → AreOff d.registers
-    → IfOk (let r : Result LpiTables Kind = if gicr then Ok (Registers d.registers) else described_tables d in r) RestoresOff
-tables_off d true e off = off
+off_where_none : (places : List (Option GicrRegisters)) → AreNone places
+    → AllByRecursion (λ (r : GicrRegisters). bit_of r.ctlr 0 ≡ false) (registers_of places).registers
+off_where_none [] none = tt
+off_where_none (None ∷ places) none = (refl, off_where_none places none.1)
+off_where_none (Some r ∷ places) none = (let some : Some r ≡ None = none.0 in absurd cc)
+
+tables_off : (d : Draft) (gicr : Bool) → gicr ≡ true → AreNone d.registers
+    → IfOk (let r : Result LpiTables Kind = if gicr then Ok (Registers (registers_of d.registers)) else described_tables d in r) RestoresOff
+tables_off d true e off = off_where_none d.registers off
 tables_off d false e off = absurd cc
 
-desc_off : (d : Draft) → d.gicr ≡ true → AreOff d.registers → IfOk (desc_of d) (λ desc. RestoresOff desc.tables)
+desc_off : (d : Draft) → d.gicr ≡ true → AreNone d.registers → IfOk (desc_of d) (λ desc. RestoresOff desc.tables)
 unfolding desc_of
 desc_off d g off =
     let P : Desc → Type 0 = λ desc. RestoresOff desc.tables in
     bound P (ok_or d.shards kind.Missing) _ (λ shards. bound_by P (tables_of d) RestoresOff _ (tables_off d d.gicr g off) (λ tables is. is))
 
-said_off : (d : Draft) → d.gicr ≡ true → AreOff d.registers → IfOk (said d) IsOffScript
+said_off : (d : Draft) → d.gicr ≡ true → AreNone d.registers → IfOk (said d) IsOffScript
 unfolding said
 said_off d g off = bound_by IsOffScript (desc_of d) (λ desc. RestoresOff desc.tables) _ (desc_off d g off) (λ desc is. is)
 
-ended_off : (d : Draft) → d.gicr ≡ true → AreOff d.registers → IfOk (script_from d) IsOffScript
+ended_off : (d : Draft) → d.gicr ≡ true → AreNone d.registers → IfOk (script_from d) IsOffScript
 unfolding script_from
 ended_off d g off = bound IsOffScript (ensure (is_ended d.stage) kind.Missing) _ (λ _. said_off d g off)
 
@@ -204,20 +207,20 @@ no_bytes : (last : List ℕ) → nat_eq (length last) 0 ≡ true → begins_with
 no_bytes [] e = refl
 no_bytes (b ∷ bs) e = absurd (both_ways (nat_eq (length (b ∷ bs)) 0) (some_fields b bs) e)
 
-finished_off : (d : Draft) (last : List ℕ) → WillProgram d (last ∷ []) → AreOff d.registers → IfOk (finished d last) IsOffScript
+finished_off : (d : Draft) (last : List ℕ) → WillProgram d (last ∷ []) → AreNone d.registers → IfOk (finished d last) IsOffScript
 unfolding finished
 finished_off d last w off =
     ensured IsOffScript (nat_eq (length last) 0) kind.Cut _ (λ none.
     elim (last_part d last w) [ inl g ↦ ended_off d g off | inr here ↦ absurd (both_ways (begins_with (codes "gicr") last) (no_bytes last none) here) ])
 
-parts_off : (n : ℕ) (d : Draft) (ps : List (List ℕ)) → WillProgram d ps → list_any (begins_with (codes "rrestore")) ps ≡ false → AreOff d.registers
+parts_off : (n : ℕ) (d : Draft) (ps : List (List ℕ)) → WillProgram d ps → list_any (begins_with (codes "rrestore")) ps ≡ false → AreNone d.registers
     → IfOk (parts_from n d ps) IsOffScript
 parts_off n d [] w none off = elim w [ inl g ↦ numbered IsOffScript n (script_from d) (ended_off d g off) | inr never ↦ absurd cc ]
 parts_off n d (last ∷ []) w none off = numbered IsOffScript n (finished d last) (finished_off d last w off)
 parts_off n d (text ∷ (next ∷ rest)) w none off =
     let later = neither (begins_with (codes "rrestore") text) (list_any (begins_with (codes "rrestore")) (next ∷ rest)) none in
     let goes_on : (e : Draft) → Follows d e → WillProgram e (next ∷ rest) → IfOk (parts_from (n + 1) e (next ∷ rest)) IsOffScript =
-    λ e f will. parts_off (n + 1) e (next ∷ rest) will later.1 (subst AreOff (sym f.registers) off) in
+    λ e f will. parts_off (n + 1) e (next ∷ rest) will later.1 (f.registers off) in
     let by_line : IfOk (line d n text) (Follows d) = line_keeps d n text later.0 in
     elim w [
       | inl g ↦ followed (Follows d) IsOffScript n (line d n text) (λ e. parts_from (n + 1) e (next ∷ rest)) by_line (λ e f. goes_on e f (inl (f.gicr g)))
@@ -229,13 +232,9 @@ parts_off n d (text ∷ (next ∷ rest)) w none off =
           ]
     ]
 
-none_given : (n : ℕ) → AllByRecursion (λ (r : GicrRegisters). bit_of r.ctlr 0 ≡ false) (replicate n no_registers)
-none_given zero = tt
-none_given (suc n) = (refl, none_given n)
-
 read_off : (bytes : List ℕ) → StartsOff bytes → IfOk (script_of bytes) IsOffScript
 unfolding script_of
-read_off bytes h = parts_off 1 empty (parts bytes) (inr h.programmed) h.none_restored (none_given 16)
+read_off bytes h = parts_off 1 empty (parts bytes) (inr h.programmed) h.none_restored tt
 
 pub scripts_off : (bytes : List ℕ) (s : Script) → script_of bytes ≡ Ok s → StartsOff bytes → RestoresOff s.desc.tables
 scripts_off bytes s read h = subst (λ (r : Result Script ScriptFault). IfOk r IsOffScript) read (read_off bytes h)

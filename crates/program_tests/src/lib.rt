@@ -19,6 +19,8 @@ mod hostile_tests;
 #[cfg(test)]
 mod kvm_tests;
 #[cfg(test)]
+mod many_tests;
+#[cfg(test)]
 mod migration_tests;
 #[cfg(test)]
 mod pair_tests;

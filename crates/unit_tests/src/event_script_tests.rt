@@ -14,6 +14,9 @@ pub const HEAD: &str =
 /// A whole description of a machine with two processors whose guest programs the redistributors.
 const PROGRAMMED: &str = "vcpus 2/gicr/shards 4/window 0x80000000 0x200000/";
 
+/// One of a machine with as many processors as there may be.
+const MANY: &str = "processors 512/gicr/shards 4/window 0x80000000 0x200000/";
+
 // Lines, as often as is said before them.
 fn push_again(text: &mut String, again: &str) -> Result<(), AllocError> {
     let (count, lines) = again.split_once(' ').unwrap_or((again, ""));
@@ -38,15 +41,17 @@ fn script_text(alloc: Global, head: &str, body: &str) -> Result<String, AllocErr
 }
 
 fn push_tables(said: &mut String, tables: &LpiTables) -> Result<(), AllocError> {
-    if let LpiTables::Registers(values) = tables {
-        let last = &values.registers[1];
-        write!(
+    let LpiTables::Registers(values) = tables else {
+        return Ok(());
+    };
+    match values.registers.as_slice().last() {
+        Some(last) => write!(
             said,
             " gicr {} {:x} {:x}",
             last.ctlr, last.propbaser, last.pendbaser
-        )?;
+        ),
+        None => Ok(()),
     }
-    Ok(())
 }
 
 fn push_restored(said: &mut String, translators: &[Its]) -> Result<(), AllocError> {
@@ -178,6 +183,15 @@ const DESCRIPTIONS: &str = " -> 1 Missing
 shards 4/ -> 1 Order
 vcpus 17/ -> 1 Number
 vcpus 4 4/ -> 1 Fields
+processors 16/ -> 1 Number
+processors 513/ -> 1 Number
+processors 512 1/ -> 1 Fields
+vcpus 2/processors 20/ -> 2 Order
+processors 20/vcpus 2/ -> 2 Order
+processors 20/processors 20/ -> 2 Order
+shards 4/processors 20/ -> 1 Order
+processors 512/pending 511 0/pending 511 0/ -> 3 Order
+processors 512/pending 511 0/pending 512 0/ -> 3 Number
 vcpus 4/shards 3/ -> 2 Number
 vcpus 4/walk/ -> 2 Word
 vcpus 4/phase/ -> 2 Missing
@@ -287,6 +301,16 @@ restore 0 0 0 0 0 0/rrestore 0x1 1 0x8003000f 2147876864/end/ \
 phase/thread/rread 1 0x70 8/rwrite 0 0x78 8 0xffffffffffffffff/end/ -> 2 16 16 One gicr 0 0 0 leg 2
 ";
 
+const OF_MANY_PROCESSORS: &str = "phase/thread/take 511/take 512/ -> 8 Number
+phase/thread/rread 512 0 4/ -> 7 Number
+restore 0 0 0 0 0 0/rrestore 512 0 0 0/ -> 6 Number
+restore 0 0 0 0 0 0/rrestore 511 0 0 0/rrestore 0x1ff/ -> 7 Order
+end/ -> 512 16 16 One gicr 0 0 0 leg
+restore 0 0 0 0 0 0/rrestore 511 1 0x8003000f 2147876864/end/ \
+-> 512 16 16 One gicr 1 8003000f 80060000 restore 0 0 leg
+phase/thread/rread 511 0x70 8/show 256/end/ -> 512 16 16 One gicr 0 0 0 leg 2
+";
+
 const BEFORE_A_REPORT: &str = "end/ -> 7 Missing
 end/trace -> 7 Cut
 trace/end/ -> 6 Order
@@ -301,6 +325,7 @@ fn scripts_are_read(rt: HostRuntime) -> Result<(), Fail> {
         (Told::Machine, "", DESCRIPTIONS),
         (Told::Machine, HEAD, OF_ONE_PROCESSOR),
         (Told::Machine, PROGRAMMED, OF_A_PROGRAMMING_GUEST),
+        (Told::Machine, MANY, OF_MANY_PROCESSORS),
         (Told::Report, HEAD, BEFORE_A_REPORT),
     ] {
         assert_eq!(rt; reads(rt.alloc(), told, head, rows)?.as_str(), rows);

@@ -3,11 +3,11 @@ ghost use Rattle.std.specs.Prelude.{◌≡◌, true};
 ghost use Rattle.gicr_regs.specs.Registers.{AreLow};
 
 use guest_windows::Memory;
-use its_types::{Bases, Intid, Profile, Shape};
+use its_types::{Addr, Bases, Intid, Profile, Shape};
 use lpi_config::{Conf, Config};
 use lpi_pending::{
     Pend, Pending, changes_pending, conf_set, conf_write, gicr_read, gicr_write, reads_tables,
-    turn_off_write,
+    room_for, turn_off_write,
 };
 use std::alloc::{AllocError, Global};
 
@@ -26,10 +26,6 @@ pub enum Act {
     Clear(u32),
     /// Whether it is pending.
     Has(u32, bool),
-    /// A byte of the pending table.
-    SetByte(u32, u8),
-    /// What it then has.
-    Byte(u32, u8),
     /// An LPI's configuration byte.
     Reload(u32, u8),
     /// What the copy has.
@@ -62,17 +58,37 @@ pub fn put(pending: &mut Pending, lpi: u32, on: bool) -> bool {
     true
 }
 
-fn has(pending: &Pending, lpi: u32) -> Option<bool> {
+// Whether that is an LPI of a redistributor that takes some, which is then pending.
+fn set(pend: &mut Pend, lpi: u32) -> bool {
     let intid = Intid(lpi);
-    if intid.in_range(pending.lpi_bits()) {
-        Some(pending.has(intid))
+    if !intid.in_range(pend.lpi_bits()) || !pend.accepts() {
+        return false;
+    }
+    pend.set(intid);
+    true
+}
+
+// Whether that is an LPI, which is then pending no more.
+fn clear(pend: &mut Pend, lpi: u32) -> bool {
+    let intid = Intid(lpi);
+    if !intid.in_range(pend.lpi_bits()) {
+        return false;
+    }
+    pend.clear(intid);
+    true
+}
+
+fn has(pend: &Pend, lpi: u32) -> Option<bool> {
+    let intid = Intid(lpi);
+    if intid.in_range(pend.lpi_bits()) {
+        Some(pend.has(intid))
     } else {
         None
     }
 }
 
-// Whether it is a byte of the table, which then has this value.
-fn set_byte(pending: &mut Pending, n: u32, byte: u8) -> bool {
+/// Whether it is a byte of the table, which then has this value.
+pub fn set_byte(pending: &mut Pending, n: u32, byte: u8) -> bool {
     if pending.lpi_bits() != 14 || n < 1024 || n >= 2048 {
         return false;
     }
@@ -80,51 +96,53 @@ fn set_byte(pending: &mut Pending, n: u32, byte: u8) -> bool {
     true
 }
 
-fn byte(pending: &Pending, n: u32) -> Option<u8> {
+/// A byte of the table.
+pub fn byte(pending: &Pending, n: u32) -> Option<u8> {
     if pending.lpi_bits() != 14 || n < 1024 || n >= 2048 {
         return None;
     }
     Some(pending.byte(n))
 }
 
-fn reload(config: &mut Config, lpi: u32, byte: u8) -> bool {
+// Whether LPIs are on and that is one, whose byte is then this.
+fn reload(conf: &mut Conf, lpi: u32, byte: u8) -> bool {
     let intid = Intid(lpi);
-    if !intid.in_range(config.lpi_bits()) {
+    if !intid.in_range(conf.lpi_bits()) || !conf.bases().on {
         return false;
     }
-    config.reload(intid, byte);
+    conf.reload(intid, byte);
     true
 }
 
-fn configured(config: &Config, lpi: u32) -> Option<u8> {
+fn configured(conf: &Conf, lpi: u32) -> Option<u8> {
     let intid = Intid(lpi);
-    if !intid.in_range(config.lpi_bits()) {
+    if !intid.in_range(conf.lpi_bits()) {
         return None;
     }
-    Some(config.byte(intid))
+    Some(conf.byte(intid))
 }
 
-fn first_enabled(pending: &Pending, config: &Config) -> Option<u32> {
-    if pending.lpi_bits() != config.lpi_bits() {
+fn first_enabled(pend: &Pend, conf: &Conf) -> Option<u32> {
+    if pend.lpi_bits() != conf.lpi_bits() {
         return Some(0);
     }
-    let first = pending.first_enabled(config)?;
+    let first = pend.first_enabled(conf)?;
     Some(first.0)
 }
 
-fn best(pending: &Pending, config: &Config, mask: u8) -> Option<u32> {
-    if pending.lpi_bits() != config.lpi_bits() {
+fn best(pend: &Pend, conf: &Conf, mask: u8) -> Option<u32> {
+    if pend.lpi_bits() != conf.lpi_bits() {
         return Some(0);
     }
-    let first = pending.first_by_priority(config, mask)?;
+    let first = pend.first_by_priority(conf, mask)?;
     Some(first.0)
 }
 
-fn claims(pending: &Pending, config: &Config, lpi: u32) -> Option<bool> {
-    if pending.lpi_bits() != config.lpi_bits() {
+fn claims(pend: &Pend, conf: &Conf, lpi: u32) -> Option<bool> {
+    if pend.lpi_bits() != conf.lpi_bits() {
         return None;
     }
-    match pending.claimable(config, Intid(lpi)) {
+    match pend.claimable(conf, Intid(lpi)) {
         Some(intid) => Some(intid.0 == lpi),
         None => Some(false),
     }
@@ -150,7 +168,7 @@ fn write(
 ) -> bool {
     let Redistributor { conf, pend } = redistributor;
     let bits = shape.lpi_bits;
-    if !is_low(&conf.bases) || pend.pending.lpi_bits() != bits || conf.config.lpi_bits() != bits {
+    if !is_low(conf.bases()) || pend.lpi_bits() != bits || conf.lpi_bits() != bits {
         return false;
     }
     let of_both = changes_pending(conf, off, size, value);
@@ -159,13 +177,16 @@ fn write(
         (false, false) => conf_set(conf, off, size, value),
         (false, true) => conf_write(conf, memory, shape, off, size, value),
         (true, false) => turn_off_write(conf, pend, shape, off, size, value),
-        (true, true) => gicr_write(conf, pend, memory, shape, off, size, value),
+        (true, true) => match room_for(conf, pend, off, size, value) {
+            Ok(room) => gicr_write(conf, pend, memory, shape, off, size, value, room),
+            Err(_) => return false,
+        },
     }
     true
 }
 
 fn read(conf: &Conf, linux: bool, off: u32, size: u8) -> Option<u64> {
-    if !is_low(&conf.bases) {
+    if !is_low(conf.bases()) {
         return None;
     }
     Some(gicr_read(linux, conf, off, size))
@@ -173,22 +194,17 @@ fn read(conf: &Conf, linux: bool, off: u32, size: u8) -> Option<u64> {
 
 // Whether the redistributor does as the act says.
 fn does(redistributor: &mut Redistributor, memory: &Memory, shape: &Shape, act: &Act) -> bool {
-    let Redistributor {
-        conf: Conf { config, .. },
-        pend: Pend { pending, accepts },
-    } = redistributor;
+    let Redistributor { conf, pend } = redistributor;
     match act {
-        Act::Set(lpi) => put(pending, *lpi, true),
-        Act::Clear(lpi) => put(pending, *lpi, false),
-        Act::Has(lpi, want) => has(pending, *lpi) == Some(*want),
-        Act::SetByte(n, byte) => set_byte(pending, *n, *byte),
-        Act::Byte(n, want) => byte(pending, *n) == Some(*want),
-        Act::Reload(lpi, byte) => reload(config, *lpi, *byte),
-        Act::Config(lpi, want) => configured(config, *lpi) == Some(*want),
-        Act::FirstEnabled(want) => first_enabled(pending, config) == *want,
-        Act::Best(mask, want) => best(pending, config, *mask) == *want,
-        Act::Claims(lpi, want) => claims(pending, config, *lpi) == Some(*want),
-        Act::Accepts(want) => *accepts == *want,
+        Act::Set(lpi) => set(pend, *lpi),
+        Act::Clear(lpi) => clear(pend, *lpi),
+        Act::Has(lpi, want) => has(pend, *lpi) == Some(*want),
+        Act::Reload(lpi, byte) => reload(conf, *lpi, *byte),
+        Act::Config(lpi, want) => configured(conf, *lpi) == Some(*want),
+        Act::FirstEnabled(want) => first_enabled(pend, conf) == *want,
+        Act::Best(mask, want) => best(pend, conf, *mask) == *want,
+        Act::Claims(lpi, want) => claims(pend, conf, *lpi) == Some(*want),
+        Act::Accepts(want) => pend.accepts() == *want,
         Act::Write(off, size, value) => write(redistributor, memory, shape, *off, *size, *value),
         Act::Read(off, size, value) => read(&redistributor.conf, shape.linux, *off, *size)
             == Some(*value),
@@ -196,25 +212,29 @@ fn does(redistributor: &mut Redistributor, memory: &Memory, shape: &Shape, act: 
 }
 
 /// A redistributor whose LPIs are off.
-pub fn off(alloc: Global) -> Result<Redistributor, AllocError> {
-    let conf = Conf {
-        config: Config::zeros(alloc, 14)?,
-        bases: Bases::off(),
-    };
-    let pend = Pend {
-        pending: Pending::new(alloc, 14)?,
-        accepts: false,
-    };
-    Ok(Redistributor { conf, pend })
+pub fn off(alloc: Global) -> Redistributor {
+    Redistributor {
+        conf: Conf::off(alloc, 14, Bases::off()),
+        pend: Pend::off(alloc, 14),
+    }
+}
+
+/// One whose LPIs are on, with a configuration of zeros and nothing pending.
+pub fn on(alloc: Global) -> Result<Redistributor, AllocError> {
+    let bases = Bases::described(Addr(0x8003_0000), Addr(0x8006_0000));
+    Ok(Redistributor {
+        conf: Conf::on(alloc, Config::zeros(alloc, 14)?, bases),
+        pend: Pend::on(alloc, Pending::new(alloc, 14)?),
+    })
 }
 
 /// How many of the acts it does as they say, up to the first that it doesn't.
 pub fn play(
-    alloc: Global,
+    redistributor: &mut Redistributor,
     memory: &Memory,
     linux: bool,
     acts: &[Act],
-) -> Result<usize, AllocError> {
+) -> usize {
     let shape = Shape {
         vcpus: 1,
         dev_bits: 16,
@@ -222,11 +242,10 @@ pub fn play(
         profile: Profile::One,
         linux,
     };
-    let mut redistributor = off(alloc)?;
     for (at, act) in acts.iter().enumerate() {
-        if !does(&mut redistributor, memory, &shape, act) {
-            return Ok(at);
+        if !does(redistributor, memory, &shape, act) {
+            return at;
         }
     }
-    Ok(acts.len())
+    acts.len()
 }

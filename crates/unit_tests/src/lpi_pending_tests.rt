@@ -1,8 +1,8 @@
 //! Redistributors in hand: what is pending, which LPI comes first, and registers.
-use crate::lpi_pending_acts::{Act, Redistributor, off, play};
+use crate::lpi_pending_acts::{Act, Redistributor, byte, off, on, play, set_byte};
 use guest_windows::Memory;
-use its_types::{Addr, Vcpu};
-use lpi_pending::Redists;
+use its_types::{Addr, Bases, Intid, Vcpu};
+use lpi_pending::{Pending, Redists};
 use std::alloc::Global;
 use std::test::Fail;
 
@@ -48,19 +48,6 @@ const BY_PRIORITY: &[Act] = &[
     Act::Clear(8300),
     Act::Best(0xff, Some(12288)),
     Act::Claims(0xffff_ffff, false),
-];
-
-const TABLE: &[Act] = &[
-    Act::Set(8200),
-    Act::Set(8207),
-    Act::Byte(1024, 0),
-    Act::Byte(1025, 0x81),
-    Act::SetByte(1025, 0x02),
-    Act::SetByte(2047, 0x80),
-    Act::Byte(1025, 0x02),
-    Act::Has(8201, true),
-    Act::Has(8200, false),
-    Act::Has(16383, true),
 ];
 
 // Below GICR_PROPBASER is written, GICR_PENDBASER, and the lower half of that once more. Then LPIs
@@ -151,10 +138,10 @@ const LEFT_ON: &[Act] = &[
 const READ_AGAIN: &[Act] = &[
     Act::Write(0x70, 8, 0x8003_0000),
     Act::Write(0x78, 8, 0x8006_0000),
-    Act::Reload(8200, 0x41),
     Act::Write(0xa0, 8, 8200),
+    Act::Config(8200, 0),
     Act::Write(0xb0, 8, 0),
-    Act::Config(8200, 0x41),
+    Act::Config(8200, 0),
     Act::Write(0x0, 4, 1),
     Act::Reload(8200, 0x41),
     Act::Reload(8201, 0x41),
@@ -178,10 +165,11 @@ fn memory(alloc: Global) -> Result<Memory, Fail> {
 #[test]
 fn redistributors_do_as_they_are_told(rt: HostRuntime) -> Result<(), Fail> {
     let memory = memory(rt.alloc())?;
+    for acts in [PENDING, BY_PRIORITY] {
+        let mut redistributor = on(rt.alloc())?;
+        assert_eq!(rt; play(&mut redistributor, &memory, false, acts), acts.len());
+    }
     for (linux, acts) in [
-        (false, PENDING),
-        (false, BY_PRIORITY),
-        (false, TABLE),
         (false, TURNED_ON),
         (false, PENDING_TABLE_ZERO),
         (false, PENDING_TABLE_OUTSIDE),
@@ -192,30 +180,40 @@ fn redistributors_do_as_they_are_told(rt: HostRuntime) -> Result<(), Fail> {
         (false, READ_AGAIN),
         (true, READ_AGAIN),
     ] {
-        assert_eq!(rt; play(rt.alloc(), &memory, linux, acts)?, acts.len());
+        let mut redistributor = off(rt.alloc());
+        assert_eq!(rt; play(&mut redistributor, &memory, linux, acts), acts.len());
     }
     Ok(())
 }
 
 #[test]
+fn bytes_of_a_pending_table(rt: HostRuntime) -> Result<(), Fail> {
+    let mut pending = Pending::new(rt.alloc(), 14)?;
+    pending.set(Intid(8200));
+    pending.set(Intid(8207));
+    assert!(rt; byte(&pending, 1024) == Some(0) && byte(&pending, 1025) == Some(0x81));
+    assert!(rt; set_byte(&mut pending, 1025, 0x02) && set_byte(&mut pending, 2047, 0x80));
+    assert_eq!(rt; byte(&pending, 1025), Some(0x02));
+    assert!(rt; pending.has(Intid(8201)) && !pending.has(Intid(8200)) && pending.has(Intid(16383)));
+    Ok(())
+}
+
+#[test]
 fn redistributors_in_hand(rt: HostRuntime) -> Result<(), Fail> {
-    let Redistributor { conf, pend } = off(rt.alloc())?;
+    let Redistributor { conf, pend } = off(rt.alloc());
     let conf = Box::new(rt.alloc(), conf)?;
     let pend = Box::new(rt.alloc(), pend)?;
-    let mut redists = Redists::new();
-    redists.place_conf(Vcpu(15), conf);
-    redists.place_pend(Vcpu(15), pend);
-    redists.conf_mut(Vcpu(15)).bases.on = true;
-    redists.pend_mut(Vcpu(15)).accepts = true;
-    let on = redists.conf(Vcpu(15)).bases.on && redists.pend(Vcpu(15)).accepts;
-    let mut conf = redists.take_conf(Vcpu(15));
-    conf.bases.pend.table = Addr(0x8004_0000);
-    redists.place_conf(Vcpu(15), conf);
-    let mut pend = redists.take_pend(Vcpu(15));
-    pend.accepts = false;
-    redists.place_pend(Vcpu(15), pend);
-    let table = redists.conf(Vcpu(15)).bases.pend.table;
-    let accepts = redists.pend(Vcpu(15)).accepts;
-    assert!(rt; on && table == Addr(0x8004_0000) && !accepts);
+    let mut redists = Redists::with_room(rt.alloc(), 512)?;
+    redists.place_conf(Vcpu(511), conf);
+    redists.place_pend(Vcpu(511), pend);
+    let mut bases = Bases::off();
+    bases.pend.table = Addr(0x8004_0000);
+    redists.conf_mut(Vcpu(511)).set_bases(bases);
+    let conf = redists.take_conf(Vcpu(511));
+    redists.place_conf(Vcpu(511), conf);
+    redists.pend_mut(Vcpu(511)).turn_off();
+    let table = redists.conf(Vcpu(511)).bases().pend.table;
+    let accepts = redists.pend(Vcpu(511)).accepts();
+    assert!(rt; table == Addr(0x8004_0000) && !accepts);
     Ok(())
 }
