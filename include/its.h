@@ -1,7 +1,7 @@
 /*
  * The Interrupt Translation Service of an Arm GICv3, for a machine monitor.
  *
- * A handle has one machine: a translator, the LPI side of 1 to 16 redistributors, and its own copy
+ * A handle has one machine: a translator, the LPI side of 1 to 512 redistributors, and its own copy
  * of the guest memory that they use. The library starts no thread, takes no lock and calls nothing
  * but the three functions of a heap (docs/LIBRARY.md), memcpy, memmove and memset. Calls with one
  * handle are made one at a time; two handles have nothing in common.
@@ -28,7 +28,7 @@ extern "C" {
 #endif
 
 /* Counts the changes of this file after which a caller is built anew. */
-#define ITS_VERSION 2
+#define ITS_VERSION 3
 
 /* What a call answers. */
 enum its_answer {
@@ -155,7 +155,7 @@ struct its_handle {
 
 /* What a machine is made from, but for its lists. */
 struct its_description_in {
-    uint32_t vcpus;       /* virtual processors, 1 to 16 */
+    uint32_t vcpus;       /* virtual processors, 1 to 512 */
     uint32_t device_bits; /* of a DeviceID, 16 to 20 */
     uint32_t lpi_bits;    /* of the INTID of an LPI, 14 to 20 */
     uint32_t profile;     /* a MAPC of a mapped collection: 1 pending LPIs stay, 2 they move */
@@ -268,10 +268,11 @@ struct its_step_out {
     uint32_t reason;  /* of enum its_reason, of a refused command */
     uint64_t address; /* of a command whose bytes don't lie in one window */
     /*
-     * Bit V is set where what its_show and its_best tell of virtual processor V may have changed. Where
-     * it is clear, that processor has the pending LPIs and the configuration that it had.
+     * Bit V % 64 of word V / 64 is set where what its_show and its_best tell of virtual processor V may
+     * have changed. Where it is clear, that processor has the pending LPIs and the configuration that it
+     * had.
      */
-    uint32_t concerned;
+    uint64_t concerned[8];
 };
 
 /* A stretch of guest memory. */
@@ -325,7 +326,10 @@ uint32_t its_write_register(struct its_handle *handle, uint32_t offset, uint32_t
 uint32_t its_read_lpi_register(struct its_handle *handle, uint32_t vcpu, uint32_t offset,
                                uint32_t size, uint64_t *out);
 
-/* Writes one of these, or GICR_INVLPIR (0xA0) or GICR_INVALLR (0xB0). Errors as for reading. */
+/*
+ * Writes one of these, or GICR_INVLPIR (0xA0) or GICR_INVALLR (0xB0). ITS_NO_MEMORY only of a write
+ * that turns LPIs on, which has changed nothing; and errors as for reading.
+ */
 uint32_t its_write_lpi_register(struct its_handle *handle, uint32_t vcpu, uint32_t offset,
                                 uint32_t size, uint64_t value);
 
@@ -418,9 +422,9 @@ uint32_t its_pending(struct its_handle *handle, uint32_t vcpu, uint32_t *list, s
  * The stretches of guest memory that the next its_step reads: none where it takes no command; else the
  * command's 32 bytes first, and then what this command, as the machine's memory has it now, reads
  * besides. `list` gets the first of them, as many as it takes, and `count` how many there are, at most
- * 18. Whatever other bytes guest memory has, the step's answer is the same, and so are the registers,
- * maps, pending LPIs and configurations that it leaves. A stretch may lie outside guest memory.
- * ITS_HANDLE.
+ * one more than virtual processors, and never more than 2 where these share a configuration table.
+ * Whatever other bytes guest memory has, the step's answer is the same, and so are the registers, maps,
+ * pending LPIs and configurations that it leaves. A stretch may lie outside guest memory. ITS_HANDLE.
  */
 uint32_t its_needs(struct its_handle *handle, struct its_stretch_out *list, size_t list_len,
                    uint64_t *count);

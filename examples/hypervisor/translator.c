@@ -125,7 +125,7 @@ static bool step(uint32_t *concerned)
         return false;
     }
     must("its_step", answer);
-    *concerned |= out.concerned;
+    *concerned |= (uint32_t)out.concerned[0]; /* the first word has all of MOST_PROCESSORS */
     if (out.outcome == ITS_OUTCOME_RAN) {
         counts.commands++;
         follow(command, out.op);
@@ -240,8 +240,10 @@ void lpi_register_access(uint32_t number, uint32_t offset, struct access *access
     gather(1u << number);
     if (offset == CTLR || offset == INVLPIR || offset == INVALLR)
         copy_tables(number, offset == CTLR && access->value & 1);
-    must("its_write_lpi_register",
-         its_write_lpi_register(&its, number, offset, access->size, access->value));
+    uint32_t answer = its_write_lpi_register(&its, number, offset, access->size, access->value);
+    /* Out of memory LPIs stay off, and GICR_CTLR reads so. */
+    if (answer != ITS_NO_MEMORY)
+        must("its_write_lpi_register", answer);
     kick(&vcpus[number]);
     forget();
 }

@@ -22,8 +22,17 @@ def c_type(name):
     return NUMBERS.get(name) or "struct " + snake(name)
 
 
+def declared_as(kind, field):
+    """A field as C declares it, and the type that it has in an expression: an array's is a pointer."""
+    array = re.fullmatch(r"\[(\w+); (\d+)\]", kind)
+    if array:
+        return f"{c_type(array[1])} {field}[{array[2]}]", c_type(array[1]) + " *"
+    kind = "void *" if kind.startswith("*mut") else c_type(kind)
+    return f"{kind} {field}", kind
+
+
 def structs(text):
-    """Each repr(C) struct: its C name, and the name and C type of each field that has bytes."""
+    """Each repr(C) struct: its C name, and of each field that has bytes its name, declaration and C type."""
     pattern = r"#\[repr\(C\)\]\s*(?:#\[[^\]]*\]\s*)*pub struct (\w+) \{(.*?)\n\}"
     for name, body in re.findall(pattern, text, re.S):
         fields = []
@@ -31,7 +40,7 @@ def structs(text):
         for ghost, field, kind in re.findall(r"^\s*(?:pub(?:\(crate\))? )?(ghost )?(\w+): ([^,]*),?$", body, re.M):
             if ghost or kind == "Global":
                 continue
-            fields.append((field, "void *" if kind.startswith("*mut") else c_type(kind)))
+            fields.append((field, *declared_as(kind, field)))
         yield snake(name), fields
 
 
@@ -124,9 +133,9 @@ def main():
     for name, value in found_codes.items():
         print(f"static_assert({name} == {value}, \"{name}\");")
     for name, fields in found_structs.items():
-        print(f"struct of_sources_{name} {{ {' '.join(f'{kind} {field};' for field, kind in fields)} }};")
+        print(f"struct of_sources_{name} {{ {' '.join(f'{declared};' for _, declared, _ in fields)} }};")
         print(f"static_assert(sizeof(struct {name}) == sizeof(struct of_sources_{name}), \"size of {name}\");")
-        for field, kind in fields:
+        for field, _, kind in fields:
             same = f"offsetof(struct {name}, {field}) == offsetof(struct of_sources_{name}, {field})"
             print(f"static_assert({same}, \"{name}.{field}\");")
             print(f"static_assert(_Generic(((struct {name} *)0)->{field}, {kind}: 1, default: 0), \"type of {name}.{field}\");")

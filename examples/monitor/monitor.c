@@ -152,7 +152,7 @@ static void run(struct its_handle *its)
         tell_step(&step);
         if (step.outcome == ITS_OUTCOME_IDLE || step.outcome == ITS_OUTCOME_QUEUE_FAULT)
             return;
-        printf("%" PRIu64 " stretches were read, processors %x are concerned\n", stretches, step.concerned);
+        printf("%" PRIu64 " stretches were read, processors %" PRIx64 " are concerned\n", stretches, step.concerned[0]);
     }
 }
 
@@ -342,7 +342,7 @@ static void misuse(struct its_handle *its, struct its_handle *freed)
     uint8_t byte = 0;
     struct its_handle other = ITS_NO_MACHINE;
 
-    printf("no such processor: %u\n", its_take(its, 256, &ack));
+    printf("no such processor: %u\n", its_take(its, 512, &ack));
     printf("no such size: %u\n", its_read_register(its, CTLR, 3, &value));
     printf("no memory there: %u\n", its_write_memory(its, UINT64_MAX, &byte, 1));
     printf("no memory to forget: %u\n", its_forget(its, 0, 1));

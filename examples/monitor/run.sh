@@ -78,6 +78,8 @@ if command -v "$compiler" >/dev/null; then
     else
         echo "crates/its_cli/out/its_cli isn't there: the monitor's replies are not compared with those of its run"
     fi
+    build many many.c heap.c && $runner "$work/many"
+    tell "512 processors" $?
     build refusals refusals.c && $runner "$work/refusals"
     tell "each allocation refused in turn" $?
     if [ "${1:-}" = times ]; then

@@ -8,7 +8,7 @@
 #include <string.h>
 #include <time.h>
 
-enum { COUNT = 1000000, DEVICES = 8, EVENTS = 128, BITS = 7, MIB = 0x100000 };
+enum { COUNT = 1000000, DEVICES = 8, EVENTS = 128, BITS = 7, MIB = 0x100000, VCPUS = 512 };
 
 static const uint64_t RAM = 0x80000000, CONFIG = 0x80030000, QUEUE = 0x80020000, ITTS = 0x80100000;
 static const uint64_t TABLES[2] = {0x80040000, 0x80050000};
@@ -34,7 +34,7 @@ static double now(void)
             double each = (now() - from) / (double)(count);                                \
             least = each < least ? each : least;                                           \
         }                                                                                  \
-        printf("%-40s %12.1f ns\n", (name), least);                                        \
+        printf("%-50s %12.1f ns\n", (name), least);                                        \
     } while (0)
 
 static void made(const char *call, uint32_t answer)
@@ -100,6 +100,43 @@ static void new_and_free(uint64_t length)
     its_free(&its);
 }
 
+/* 512 processors, whose LPIs are on with one configuration table, or each with one of its own. */
+static void start_many(struct its_handle *its, uint64_t apart)
+{
+    static const struct its_redistributor_in off[VCPUS];
+    struct its_description_in numbers = {.vcpus = VCPUS, .device_bits = 16, .lpi_bits = 16, .profile = 1, .programmed = 1};
+    struct its_window_in window = {RAM, (uint64_t)1 << 30};
+    struct its_make_fault_out unmade;
+    made("its_new", its_new(its, &numbers, &window, 1, NULL, 0, off, VCPUS, NULL, 0, NULL, 0, NULL, 0, &unmade));
+    for (uint32_t vcpu = 0; vcpu < VCPUS; vcpu++) {
+        its_write_lpi_register(its, vcpu, 0x70, 8, (CONFIG + apart * vcpu) | 15);
+        its_write_lpi_register(its, vcpu, 0x78, 8, (uint64_t)1 << 62 | TABLES[0]);
+        its_write_lpi_register(its, vcpu, 0x0, 4, 1);
+    }
+    drive(its);
+}
+
+static void time_many(const char *tables, uint64_t apart)
+{
+    static struct its_stretch_out list[VCPUS + 1];
+    struct its_handle its = ITS_NO_MACHINE;
+    struct its_step_out step;
+    char name[64];
+    uint64_t count;
+    start_many(&its, apart);
+    snprintf(name, sizeof name, "512 processors, %s: its_needs, nothing", tables);
+    TIME(name, COUNT, its_needs(&its, list, VCPUS + 1, &count); sum += count);
+    put(&its, (uint64_t)7 << 32 | 0xc, 2, 0);
+    snprintf(name, sizeof name, "512 processors, %s: its_needs, an INV", tables);
+    TIME(name, 10000, its_needs(&its, list, VCPUS + 1, &count); sum += count);
+    made("its_step", its_step(&its, &step));
+    snprintf(name, sizeof name, "512 processors, %s: INV", tables);
+    TIME(name, 10000, run(&its, (uint64_t)7 << 32 | 0xc, 2, 0));
+    snprintf(name, sizeof name, "512 processors, %s: INT", tables);
+    TIME(name, COUNT / 10, run(&its, (uint64_t)7 << 32 | 0x3, 2, 0));
+    its_free(&its);
+}
+
 int main(void)
 {
     static uint8_t memory[2 * MIB], other[2 * MIB];
@@ -136,6 +173,8 @@ int main(void)
     its_free(&its);
     TIME("its_new of 1 MiB, and its_free", 100, new_and_free(MIB));
     TIME("its_new of 64 GiB, and its_free", 100, new_and_free((uint64_t)64 << 30));
+    time_many("one table", 0);
+    time_many("512 tables", 0x10000);
     printf("(%" PRIu64 ")\n", sum & 1);
     return 0;
 }

@@ -27,8 +27,10 @@
 OBJECT_DECLARE_SIMPLE_TYPE(LibraryIts, LIBRARY_ITS)
 
 enum {
-    MOST = 16,                     /* processors, and windows */
-    NEEDS = 18,
+    MOST = 512,                    /* processors */
+    WORDS = MOST / 64,             /* of a set of them, as a step tells it */
+    WINDOWS = 16,
+    NEEDS = MOST + 1,              /* stretches that a step reads */
     COMMANDS = 32768,              /* as many as the longest queue has */
     EVENTS = 65536,                /* more than there are LPIs */
     CONFIG_BYTES = 65536 - 8192,   /* a byte for each LPI of 16 bits */
@@ -42,7 +44,7 @@ struct LibraryIts {
     GICv3ITSState parent_obj;
     GICv3State *gic;
     struct its_handle *handle;     /* NULL before the first reset */
-    struct its_window_in windows[MOST];
+    struct its_window_in windows[WINDOWS];
     size_t windows_len;
     GArray *fills;                 /* while a machine is made: what it is restored from */
     GByteArray *bytes;
@@ -245,7 +247,7 @@ static bool add_window(Int128 start, Int128 length, const MemoryRegion *region, 
         s->windows[s->windows_len++] = (struct its_window_in) {
             int128_get64(start), int128_get64(length) };
     }
-    return s->windows_len == MOST;
+    return s->windows_len == WINDOWS;
 }
 
 /* A machine as at reset, or from the guest's memory and the registers that QEMU loaded. */
@@ -324,7 +326,7 @@ static void save(LibraryIts *s)
 /* ---- the queue, and signals ---- */
 
 /* One command: what it reads is copied in, as the guest has it now, and it is taken. */
-static bool step(LibraryIts *s, uint32_t *concerned)
+static bool step(LibraryIts *s, uint64_t *concerned)
 {
     struct its_stretch_out needs[NEEDS];
     struct its_step_out out;
@@ -345,7 +347,9 @@ static bool step(LibraryIts *s, uint32_t *concerned)
         return false;
     }
     done("its_step", answer);
-    *concerned |= out.concerned;
+    for (int i = 0; i < WORDS; i++) {
+        concerned[i] |= out.concerned[i];
+    }
     if (out.outcome == ITS_OUTCOME_REFUSED) {
         qemu_log_mask(LOG_GUEST_ERROR, "library-its: command 0x%x refused: %s\n", out.op,
                       word(ITS_LIST_REASONS, out.reason));
@@ -356,12 +360,12 @@ static bool step(LibraryIts *s, uint32_t *concerned)
 /* The queue as far as it was written, and no further for a guest that fills it without an end. */
 static void run_queue(LibraryIts *s)
 {
-    uint32_t concerned = 0;
+    uint64_t concerned[WORDS] = { 0 };
 
-    for (int i = 0; i < COMMANDS && step(s, &concerned); i++) {
+    for (int i = 0; i < COMMANDS && step(s, concerned); i++) {
     }
     for (int vcpu = 0; vcpu < s->gic->num_cpu; vcpu++) {
-        if (concerned >> vcpu & 1) {
+        if (concerned[vcpu / 64] >> vcpu % 64 & 1) {
             update_line(s, vcpu);
         }
     }
@@ -550,7 +554,14 @@ MemTxResult __wrap_gicv3_redist_write(void *opaque, hwaddr offset, uint64_t valu
         copy_in(chosen, config_of(cs), CONFIG_BYTES);
         copy_in(chosen, pending_of(cs), PENDING_BYTES);
     }
-    MUST(its_write_lpi_register, chosen->handle, vcpu, offset, size, value);
+    uint32_t answer = its_write_lpi_register(chosen->handle, vcpu, offset, size, value);
+
+    /* Out of memory LPIs stay off, and GICR_CTLR reads so. */
+    if (answer == ITS_NO_MEMORY) {
+        error_report("library-its: no memory for the LPIs of processor %u", vcpu);
+    } else {
+        done("its_write_lpi_register", answer);
+    }
     keep_registers(chosen, vcpu);
     update_line(chosen, vcpu);
     return MEMTX_OK;

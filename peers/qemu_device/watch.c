@@ -199,7 +199,8 @@ uint32_t __wrap_its_new(struct its_handle *handle, const struct its_description_
     end_machine();
     machine = handle;
     processors = numbers->vcpus;
-    say("machine\nvcpus %u\nshards 16\nids %u %u\ngicr\n", numbers->vcpus, numbers->device_bits,
+    say("machine\n%s %u\nshards 16\nids %u %u\ngicr\n",
+        numbers->vcpus > 16 ? "processors" : "vcpus", numbers->vcpus, numbers->device_bits,
         numbers->lpi_bits);
     say("%s", numbers->linux_guest ? "linux\n" : "");
     if (numbers->restored) {

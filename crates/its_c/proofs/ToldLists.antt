@@ -1,5 +1,5 @@
 -- A list of which one element more is told.
-use Rattle.std.proofs.Common.{◌≡◌, ◌≢◌, ◌<◌, ◌≤◌, ℕ, ◌+◌, List, length, Some, inl, inr, sym, ap, ◌∙◌, subst, arith}
+use Rattle.std.proofs.Common.{◌≡◌, ◌≢◌, ◌<◌, ◌≤◌, ℕ, zero, suc, ◌+◌, List, [], ◌∷◌, drop, length, Some, inl, inr, sym, ap, ◌∙◌, subst, arith, add-one}
 use Rattle.std.specs.Prelude.{slice_get, slice_set}
 use Rattle.std.proofs.lemmas.Bool.{cases_eq, cases_lt}
 use Rattle.std.proofs.lemmas.List.{get_or-set_same, get_or-set_other, length-set}
@@ -39,3 +39,31 @@ module _ {A : Type 0} (xs : List A) (at : ℕ) (x : A) where
 
   pub length_next : (n : ℕ) → length xs ≡ n → length (slice_set xs at x) ≡ n
   length_next n is = same_length ∙ is
+
+  -- the same, as far as the list goes
+  pub told_so_far : (ys : List A) → slice_get ys at ≡ Some x → ((i : ℕ) → i < at → i < length xs → slice_get xs i ≡ slice_get ys i) → (i : ℕ) → i < at + 1
+      → i < length (slice_set xs at x) → slice_get (slice_set xs at x) i ≡ slice_get ys i
+  told_so_far ys is before i below within =
+      let inside : i < length xs = subst (λ (n : ℕ). i < n) same_length within in
+      elim (cases_eq i at) [
+        | inl same ↦ ap (slice_get (slice_set xs at x)) same ∙ here (subst (λ (k : ℕ). k < length xs) same inside) ∙ sym is ∙ ap (slice_get ys) (sym same)
+        | inr other ↦ there i other ∙ before i (omega (arith, below, other)) inside
+      ]
+
+-- ---- what is left from a place on
+
+module _ {A : Type 0} (ys : List A) (x : A) where
+  first_left : (xs : List A) (at : ℕ) → drop at xs ≡ x ∷ ys → slice_get xs at ≡ Some x
+  first_left [] zero e = absurd cc
+  first_left [] (suc at) e = absurd cc
+  first_left (y ∷ zs) zero e = ap (λ (l : List A). slice_get l 0) e
+  first_left (y ∷ zs) (suc at) e = first_left zs at e
+
+  others_left : (xs : List A) (at : ℕ) → drop at xs ≡ x ∷ ys → drop (suc at) xs ≡ ys
+  others_left [] zero e = absurd cc
+  others_left [] (suc at) e = absurd cc
+  others_left (y ∷ zs) zero e = ap (drop 1) e
+  others_left (y ∷ zs) (suc at) e = others_left zs at e
+
+  pub next_left : (xs : List A) (at : ℕ) → drop at xs ≡ x ∷ ys → (slice_get xs at ≡ Some x) × (drop (at + 1) xs ≡ ys)
+  next_left xs at is = (first_left xs at is, rw add-one (others_left xs at is))

@@ -8,6 +8,7 @@ use Rattle.its_plain.specs.Doorbells.{dma_of}
 use Rattle.its_plain.specs.declared.call.Call.{Call}
 use Rattle.its_plain.specs.declared.call.Reply.{Reply}
 use Rattle.its_plain.specs.declared.call.Signal.{Signal}
+use Rattle.its_types.specs.Ranges.{most_vcpus}
 use Rattle.gicr_regs.specs.Registers.{values_of}
 use Rattle.gicr_regs.specs.declared.values.GicrRegisters.{GicrRegisters}
 use Rattle.its_c.specs.Keeping.{Held}
@@ -18,7 +19,7 @@ as_given v = record { ctlr = v.ctlr; propbaser = v.propbaser; pendbaser = v.pend
 
 -- whether the machine has a virtual processor of this number
 abbrev pub has_vcpu : Plain → ℕ → Bool
-has_vcpu u vcpu = nat_lt vcpu 256 && nat_lt vcpu (length u.redistributors)
+has_vcpu u vcpu = nat_lt vcpu most_vcpus && nat_lt vcpu (length u.redistributors)
 
 -- whether registers are read and written in so many bytes
 abbrev pub is_size : ℕ → Bool

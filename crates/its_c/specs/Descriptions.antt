@@ -1,8 +1,9 @@
 -- Descriptions as they are given in numbers, and the description that they stand for.
-use Rattle.std.specs.Prelude.{ℕ, ◌-◌, Bool, false, ◌&&◌, ◌==◌, nat_le, nat_lt, if◌then◌else◌, List, [], ◌∷◌, take, drop, map, Option, Some, None, slice_get}
+use Rattle.std.specs.Prelude.{ℕ, ◌-◌, Bool, false, ◌&&◌, ◌==◌, nat_le, nat_lt, if◌then◌else◌, List, [], ◌∷◌, take, drop, map, Option, Some, None}
 use Rattle.gicr_regs.specs.declared.values.GicrRegisters.{GicrRegisters}
 use Rattle.gicr_regs.specs.declared.values.GicrValues.{GicrValues}
 use Rattle.gits_regs.specs.declared.values.RegValues.{RegValues}
+use Rattle.its_types.specs.Ranges.{most_vcpus}
 use Rattle.its_types.specs.declared.ids.Addr.{Addr}
 use Rattle.its_types.specs.declared.machine.Limits.{Limits}
 use Rattle.its_types.specs.declared.machine.Profile.{Profile}
@@ -28,7 +29,7 @@ between least most n = nat_le least n && nat_le n most
 -- each number by itself
 abbrev pub numbers_in_range : DescriptionIn → Bool
 numbers_in_range d =
-    between 1 16 d.vcpus && between 16 20 d.device_bits && between 14 20 d.lpi_bits && between 1 2 d.profile && nat_lt d.programmed 2 && nat_lt d.restored 3
+    between 1 most_vcpus d.vcpus && between 16 20 d.device_bits && between 14 20 d.lpi_bits && between 1 2 d.profile && nat_lt d.programmed 2 && nat_lt d.restored 3
     && nat_lt d.linux_guest 2 && nat_lt d.has_frames 2
 
 -- so many pending tables, or so many redistributors' registers, as virtual processors
@@ -60,21 +61,11 @@ abbrev pub fills_of : List FillIn → List ℕ → List Fill
 fills_of [] bytes = []
 fills_of (f ∷ fills) bytes = record { addr = address_of f.address; bytes = take f.length bytes } ∷ fills_of fills (drop f.length bytes)
 
-abbrev pub registers_in : Option RedistributorIn → GicrRegisters
-registers_in None = record { ctlr = 0; propbaser = 0; pendbaser = 0 }
-registers_in (Some r) = record { ctlr = r.ctlr; propbaser = r.propbaser; pendbaser = r.pendbaser }
+abbrev pub registers_in : RedistributorIn → GicrRegisters
+registers_in r = record { ctlr = r.ctlr; propbaser = r.propbaser; pendbaser = r.pendbaser }
 
-abbrev pub registers_at : List RedistributorIn → ℕ → GicrRegisters
-registers_at redistributors i = registers_in (slice_get redistributors i)
-
--- all zero where there are no more
 abbrev pub registers_of : List RedistributorIn → GicrValues
-registers_of r = record {
-  registers =
-      registers_at r 0 ∷ registers_at r 1 ∷ registers_at r 2 ∷ registers_at r 3 ∷ registers_at r 4 ∷ registers_at r 5 ∷ registers_at r 6 ∷ registers_at r 7
-      ∷ registers_at r 8 ∷ registers_at r 9 ∷ registers_at r 10 ∷ registers_at r 11
-      ∷ registers_at r 12 ∷ registers_at r 13 ∷ registers_at r 14 ∷ registers_at r 15 ∷ [];
-}
+registers_of redistributors = record { registers = map registers_in redistributors }
 
 abbrev pub tables_of : DescriptionIn → List ℕ → List RedistributorIn → LpiTables
 tables_of d pending redistributors =

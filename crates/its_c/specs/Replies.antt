@@ -1,6 +1,7 @@
 -- Replies as numbers.
-use Rattle.std.specs.Prelude.{◌≡◌, ◌⊎◌, ℕ, false, slice_get}
-use Rattle.its_command.specs.declared.command.Op.{Op}
+use Rattle.std.specs.Prelude.{◌≡◌, ◌⊎◌, ◌<◌, ℕ, List, false, slice_get}
+use Rattle.its_types.specs.Bitmap.{word_bit}
+use Rattle.its_types.specs.Ranges.{most_vcpus}
 use Rattle.its_command.specs.Opcodes.{opcode}
 use Rattle.its_plain.specs.declared.call.Ack.{Ack}
 use Rattle.its_plain.specs.declared.call.Ack.TheVariants as acks
@@ -17,7 +18,6 @@ use Rattle.its_plain.specs.declared.call.Reply.TheVariants as replies
 use Rattle.its_plain.specs.declared.call.Route.{Route}
 use Rattle.its_plain.specs.declared.call.Route.TheVariants as route
 use Rattle.its_plain.specs.Plain.{Plain}
-use Rattle.owned_parts.specs.RedistSets.{is_in}
 use Rattle.step_views.specs.declared.destination.Destination.{Destination}
 use Rattle.step_views.specs.declared.destination.Destination.TheVariants as to
 use Rattle.its_c.specs.Codes as codes
@@ -93,16 +93,16 @@ reason_number reasons.NoCollection = 10
 reason_number reasons.LpisOff = 11
 
 -- with the virtual processors that are concerned
-abbrev pub step_out : StepReply → ℕ → StepOut
+abbrev pub step_out : StepReply → List ℕ → StepOut
 step_out steps.Idle c = record { outcome = 0; op = 0; reason = 0; address = 0; concerned = c }
 step_out (steps.Ran op) c = record { outcome = 1; op = opcode op; reason = 0; address = 0; concerned = c }
 step_out (steps.Refused op reason) c = record { outcome = 2; op = opcode op; reason = reason_number reason; address = 0; concerned = c }
 step_out (steps.QueueFault at) c = record { outcome = 3; op = 0; reason = 0; address = at.0; concerned = c }
 
 -- a virtual processor whose bit is clear is as it was
-abbrev pub UnconcernedStay : ℕ → Plain → Plain → Type 0
+abbrev pub UnconcernedStay : List ℕ → Plain → Plain → Type 0
 UnconcernedStay concerned u w =
-    (vcpu : ℕ) → is_in concerned vcpu ≡ false → slice_get w.redistributors vcpu ≡ slice_get u.redistributors vcpu
+    (vcpu : ℕ) → vcpu < most_vcpus → word_bit concerned vcpu ≡ false → slice_get w.redistributors vcpu ≡ slice_get u.redistributors vcpu
 
 -- what a step may answer, of a handle with a machine
 abbrev pub IsStepCode : ℕ → Type 0

@@ -118,10 +118,10 @@ fn needs_and_limits(rt: HostRuntime) {
     assert_eq!(rt; needed(&mut handle), (DONE, 2, [command, (0x8003_0000, 1)]));
     let mut step = NO_STEP;
     assert_eq!(rt; its_step(&mut handle, alloc, &mut step), FULL);
-    assert_eq!(rt; (step.outcome, step.concerned), (9, 0));
+    assert_eq!(rt; (step.outcome, step.concerned[0]), (9, 0));
     assert_eq!(rt; its_limit(&mut handle, 1), DONE);
     assert_eq!(rt; its_step(&mut handle, alloc, &mut step), DONE);
-    assert_eq!(rt; (step.outcome, step.concerned & 2), (1, 2));
+    assert_eq!(rt; (step.outcome, step.concerned[0] & 2), (1, 2));
     assert_eq!(rt; its_free(&mut handle, alloc), DONE);
 }
 

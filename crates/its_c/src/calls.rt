@@ -4,7 +4,7 @@ ghost use Rattle.gits_regs.specs.Registers.{read_reg};
 ghost use Rattle.its_plain.specs.Answer.{signal_left, written, gicr_read, gicr_written};
 ghost use Rattle.its_plain.specs.Doorbells.{route_of};
 ghost use Rattle.its_plain.specs.Plain.{regs_of};
-ghost use Rattle.owned_machine.specs.Whole.{may_want_memory};
+ghost use Rattle.owned_machine.specs.Whole.{enables, may_want_memory};
 ghost use Rattle.step_views.specs.Destinations.{destination};
 ghost use Rattle.its_c.specs.Asked.{has_vcpu as has, is_size as is, has_register, signalled};
 ghost use Rattle.its_c.specs.Asked.{stored, is_count, wrote, wrote_reply, wrote_left};
@@ -97,7 +97,8 @@ pub extern "C" fn its_read_lpi_register(
     read_lpi_register(handle.lent(), alloc, vcpu, offset, size, out)
 }
 
-/// A write of 4 or 8 bytes of the LPI registers of a redistributor.
+/// A write of 4 or 8 bytes of the LPI registers of a redistributor. Out of memory, which only a
+/// write that asks to turn LPIs on can be, nothing is changed.
 #[unsafe(no_mangle)]
 pub extern "C" fn its_write_lpi_register(
     handle: &mut Handle,
@@ -109,12 +110,15 @@ pub extern "C" fn its_write_lpi_register(
 ) -> u32
     ensures empty { handle.old.machine ≡ None → result ≡ codes.handle }
     ensures kept { beside handle.new ≡ beside handle.old }
-    ensures code { InMachine handle.old handle.new (λ u w.
-        result ≡ codes.if_in_range (has_register u vcpu size)) }
-    ensures left { InMachine handle.old handle.new (λ u w.
-        has_register u vcpu size ≡ true → w ≡ gicr_written u vcpu offset size value) }
-    ensures refused { InMachine handle.old handle.new (λ u w.
-        has_register u vcpu size ≡ false → w ≡ u) }
+    ensures range { InMachine handle.old handle.new (λ u w.
+        has_register u vcpu size ≡ false → result ≡ codes.range) }
+    ensures codes { InMachine handle.old handle.new (λ u w. has_register u vcpu size ≡ true
+        → (result ≡ codes.done) ⊎ (result ≡ codes.no_memory)) }
+    ensures left { InMachine handle.old handle.new (λ u w. result ≡ codes.done
+        → w ≡ gicr_written u vcpu offset size value) }
+    ensures rare { InMachine handle.old handle.new (λ u w. result ≡ codes.no_memory
+        → enables u vcpu offset size value ≡ true) }
+    ensures refused { InMachine handle.old handle.new (λ u w. result ≢ codes.done → w ≡ u) }
 {
     if handle.is_empty() {
         return HANDLE;

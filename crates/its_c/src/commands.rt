@@ -2,6 +2,8 @@
 ghost use Rattle.std.specs.Prelude.{◌≡◌, ◌≢◌, ◌≤◌, ◌<◌, ℕ, true, false};
 ghost use Rattle.its_plain.specs.Answer as plain;
 ghost use Rattle.owned_machine.specs.Whole.{step_adds};
+ghost use Rattle.its_types.specs.Bitmap.{word_bit};
+ghost use Rattle.its_types.specs.Ranges.{most_vcpus};
 ghost use Rattle.owned_parts.specs.RedistSets.{is_in};
 ghost use Rattle.its_c.specs.Codes as codes;
 ghost use Rattle.its_c.specs.Keeping.{with_machine, is_full};
@@ -10,7 +12,7 @@ ghost use Rattle.its_c.specs.Replies as replies;
 use crate::codes::{DONE, FULL, NO_MEMORY};
 use crate::kept::{Kept, StepError};
 use crate::replies::{StepOut, step_out};
-use its_types::Vcpu;
+use its_types::{MOST_VCPUS, put_bit};
 use owned_parts::RedistSet;
 use std::alloc::Global;
 use step_views::concerned;
@@ -29,7 +31,7 @@ pub fn step(kept: &mut Kept, alloc: Global, out: &mut StepOut) -> u32
     ensures codes { replies.IsStepCode result }
     ensures refused { result ≢ codes.done → (out.new ≡ out.old) × (kept.new ≡ kept.old) }
 {
-    let concerned = bits_of(concerned(kept.machine().parts(), 0));
+    let concerned = words_of(concerned(kept.machine().parts(), 0));
     match kept.step(alloc) {
         Ok(reply) => {
             *out = step_out(reply, concerned);
@@ -40,13 +42,15 @@ pub fn step(kept: &mut Kept, alloc: Global, out: &mut StepOut) -> u32
     }
 }
 
-// A set as a number, of which bit v is that of virtual processor v.
-fn bits_of(set: RedistSet) -> u32
-    ensures { (v : ℕ) → is_in result v ≡ is_in set v }
+// A set as words, of which bit v % 64 of word v / 64 is that of virtual processor v.
+fn words_of(set: RedistSet) -> [u64; 8]
+    ensures { (v : ℕ) → v < most_vcpus → word_bit result v ≡ is_in set v }
 {
-    let mut bits = 0u32;
-    for vcpu in 0..16u8 {
-        bits = 2 * bits + u32::from(set.has(Vcpu(15 - vcpu)));
+    let mut words = [0; 8];
+    let mut next = 0;
+    while let Some(vcpu) = set.next(next, MOST_VCPUS) {
+        put_bit(&mut words, usize::from(vcpu), true);
+        next = vcpu + 1;
     }
-    bits
+    words
 }

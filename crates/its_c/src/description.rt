@@ -8,7 +8,7 @@ use crate::numbers::{DescriptionIn, FillIn, RedistributorIn, RequestersIn, Windo
 use gicr_regs::{GicrRegisters, GicrValues};
 use gits_regs::RegValues;
 use its_plain::{Desc, Fill, Its, LpiTables, RequesterRanges, Requesters};
-use its_types::{Addr, DeviceId, Limits, Listed, Profile, Shape};
+use its_types::{Addr, DeviceId, Limits, Listed, MOST_VCPUS, Profile, Shape};
 use std::alloc::{AllocError, Global};
 
 /// Whether all numbers are in their ranges, of so many pending tables, redistributors' registers
@@ -31,7 +31,7 @@ pub fn is_in_range(
 fn numbers_in_range(description: &DescriptionIn) -> bool
     ensures { result ≡ spec.numbers_in_range description.now }
 {
-    between(1, 16, description.vcpus)
+    between(1, u32::from(MOST_VCPUS), description.vcpus)
         && between(16, 20, description.device_bits)
         && between(14, 20, description.lpi_bits)
         && between(1, 2, description.profile)
@@ -119,7 +119,7 @@ fn shape(numbers: &DescriptionIn) -> Shape
     ensures ranges { IsShape result }
 {
     Shape {
-        vcpus: numbers.vcpus as u8,
+        vcpus: numbers.vcpus as u16,
         dev_bits: numbers.device_bits as u8,
         lpi_bits: numbers.lpi_bits as u8,
         profile: if numbers.profile == 1 {
@@ -158,7 +158,7 @@ fn tables(
             pending: Listed::from_vec(addresses(alloc, pending)?),
         })
     } else {
-        Ok(LpiTables::Registers(registers_of(redistributors)))
+        Ok(LpiTables::Registers(registers_of(alloc, redistributors)?))
     }
 }
 
@@ -168,47 +168,28 @@ fn addresses(alloc: Global, words: &[u64]) -> Result<Vec<Addr>, AllocError>
     words.iter().map(|word| Addr(*word)).collect(alloc)
 }
 
-// The registers of 16 redistributors, all zero where there are no more.
-fn registers_of(r: &[RedistributorIn]) -> GicrValues
-    ensures { result ≡ spec.registers_of r.now }
+fn registers_of(alloc: Global, redistributors: &[RedistributorIn]) -> Result<GicrValues, AllocError>
+    ensures { IfOk result (λ values. values ≡ spec.registers_of redistributors.now) }
 {
-    GicrValues {
-        registers: [
-            registers_at(r, 0),
-            registers_at(r, 1),
-            registers_at(r, 2),
-            registers_at(r, 3),
-            registers_at(r, 4),
-            registers_at(r, 5),
-            registers_at(r, 6),
-            registers_at(r, 7),
-            registers_at(r, 8),
-            registers_at(r, 9),
-            registers_at(r, 10),
-            registers_at(r, 11),
-            registers_at(r, 12),
-            registers_at(r, 13),
-            registers_at(r, 14),
-            registers_at(r, 15),
-        ],
-    }
+    Ok(GicrValues {
+        registers: Listed::from_vec(registers_in(alloc, redistributors)?),
+    })
 }
 
-fn registers_at(redistributors: &[RedistributorIn], i: usize) -> GicrRegisters
-    ensures { result ≡ spec.registers_at redistributors.now i }
+fn registers_in(
+    alloc: Global,
+    redistributors: &[RedistributorIn],
+) -> Result<Vec<GicrRegisters>, AllocError>
+    ensures { IfOk result (λ v. v.items ≡ map spec.registers_in redistributors.now) }
 {
-    match redistributors.get(i) {
-        Some(registers) => GicrRegisters {
-            ctlr: registers.ctlr,
-            propbaser: registers.propbaser,
-            pendbaser: registers.pendbaser,
-        },
-        None => GicrRegisters {
-            ctlr: 0,
-            propbaser: 0,
-            pendbaser: 0,
-        },
-    }
+    redistributors
+        .iter()
+        .map(|given| GicrRegisters {
+            ctlr: given.ctlr,
+            propbaser: given.propbaser,
+            pendbaser: given.pendbaser,
+        })
+        .collect(alloc)
 }
 
 fn fills_of(alloc: Global, fills: &[FillIn], bytes: &[u8]) -> Result<Listed<Fill>, AllocError>

@@ -100,7 +100,7 @@ pub fn take(kept: &mut Kept, alloc: Global, vcpu: u32, out: &mut AckOut) -> u32
     if !has_vcpu(kept.machine(), vcpu) {
         return RANGE;
     }
-    let Ok(Reply::Ack(ack)) = kept.answer(alloc, &Call::Take(Vcpu(vcpu as u8))) else {
+    let Ok(Reply::Ack(ack)) = kept.answer(alloc, &Call::Take(Vcpu(vcpu as u16))) else {
         unreachable!()
     };
     *out = ack_out(ack);
@@ -119,7 +119,7 @@ pub fn show(kept: &mut Kept, alloc: Global, vcpu: u32, out: &mut AckOut) -> u32
     if !has_vcpu(kept.machine(), vcpu) {
         return RANGE;
     }
-    let Ok(Reply::Ack(ack)) = kept.answer(alloc, &Call::Show(Vcpu(vcpu as u8))) else {
+    let Ok(Reply::Ack(ack)) = kept.answer(alloc, &Call::Show(Vcpu(vcpu as u16))) else {
         unreachable!()
     };
     *out = ack_out(ack);
@@ -139,7 +139,7 @@ pub fn best(kept: &mut Kept, alloc: Global, vcpu: u32, mask: u32, out: &mut AckO
         return RANGE;
     }
     let call = Call::Best {
-        vcpu: Vcpu(vcpu as u8),
+        vcpu: Vcpu(vcpu as u16),
         mask: mask as u8,
     };
     let Ok(Reply::Ack(ack)) = kept.answer(alloc, &call) else {
@@ -165,7 +165,7 @@ pub fn claim(kept: &mut Kept, alloc: Global, vcpu: u32, intid: u32, out: &mut Ac
         return RANGE;
     }
     let call = Call::Claim {
-        vcpu: Vcpu(vcpu as u8),
+        vcpu: Vcpu(vcpu as u16),
         intid: Intid(intid),
     };
     let Ok(Reply::Ack(ack)) = kept.answer(alloc, &call) else {

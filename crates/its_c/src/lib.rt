@@ -16,6 +16,8 @@ mod kept;
 mod lent;
 mod loose;
 mod making;
+#[cfg(test)]
+mod many_tests;
 mod memory;
 mod memory_calls;
 mod numbers;

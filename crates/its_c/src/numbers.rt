@@ -4,7 +4,7 @@
 #[repr(C)]
 #[derive(Clone, Copy)]
 pub struct DescriptionIn {
-    /// How many virtual processors there are: 1 to 16.
+    /// How many virtual processors there are: 1 to 512.
     pub vcpus: u32,
     /// How many bits a DeviceID has: 16 to 20.
     pub device_bits: u32,

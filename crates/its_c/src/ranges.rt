@@ -2,13 +2,14 @@
 ghost use Rattle.std.specs.Prelude.{◌≡◌};
 ghost use Rattle.its_c.specs.Asked as spec;
 
+use its_types::MOST_VCPUS;
 use owned_machine::Machine;
 
 /// Whether there is a virtual processor of this number.
 pub fn has_vcpu(machine: &Machine, vcpu: u32) -> bool
     ensures { result ≡ spec.has_vcpu machine.now vcpu }
 {
-    vcpu < 256 && (vcpu as usize) < machine.vcpus()
+    vcpu < u32::from(MOST_VCPUS) && (vcpu as usize) < machine.vcpus()
 }
 
 /// Whether registers are accessed in so many bytes.

@@ -1,13 +1,14 @@
 //! Registers: those of the translator, and the LPI registers of redistributors.
-ghost use Rattle.std.specs.Prelude.{◌≡◌, true, false};
+ghost use Rattle.std.specs.Prelude.{◌≡◌, ◌≢◌, ◌⊎◌, true, false};
 ghost use Rattle.gits_regs.specs.Registers.{read_reg};
 ghost use Rattle.its_plain.specs.Answer.{written, gicr_read, gicr_written};
 ghost use Rattle.its_plain.specs.Plain.{regs_of};
+ghost use Rattle.owned_machine.specs.Whole.{enables};
 ghost use Rattle.its_c.specs.Asked.{is_size as is, has_vcpu as has, has_register, stored};
 ghost use Rattle.its_c.specs.Codes as codes;
 ghost use Rattle.its_c.specs.Keeping.{with_machine};
 
-use crate::codes::{DONE, RANGE};
+use crate::codes::{DONE, NO_MEMORY, RANGE};
 use crate::kept::Kept;
 use crate::numbers::RedistributorIn;
 use crate::ranges::{has_vcpu, is_size};
@@ -81,7 +82,7 @@ pub fn read_lpi_register(
         return RANGE;
     }
     let call = Call::ReadGicr {
-        vcpu: Vcpu(vcpu as u8),
+        vcpu: Vcpu(vcpu as u16),
         off: offset,
         size: size as u8,
     };
@@ -92,7 +93,8 @@ pub fn read_lpi_register(
     DONE
 }
 
-/// A write of 4 or 8 bytes of the LPI registers of a redistributor.
+/// A write of 4 or 8 bytes of the LPI registers of a redistributor. Out of memory, which only a
+/// write that asks to turn LPIs on can be, nothing is changed.
 #[tactic(auto, unfolding(its_plain::specs::Answer::reply_of, its_plain::specs::Answer::left))]
 pub fn write_lpi_register(
     kept: &mut Kept,
@@ -102,25 +104,28 @@ pub fn write_lpi_register(
     size: u32,
     value: u64,
 ) -> u32
-    ensures code { result ≡ codes.if_in_range (has_register kept.old.machine vcpu size) }
-    ensures left { has_register kept.old.machine vcpu size ≡ true
-        → kept.new ≡ with_machine kept.old (gicr_written kept.old.machine vcpu offset size value) }
-    ensures refused { has_register kept.old.machine vcpu size ≡ false
-        → kept.new ≡ kept.old }
+    ensures range { has_register kept.old.machine vcpu size ≡ false → result ≡ codes.range }
+    ensures codes { has_register kept.old.machine vcpu size ≡ true
+        → (result ≡ codes.done) ⊎ (result ≡ codes.no_memory) }
+    ensures left { result ≡ codes.done → kept.new
+        ≡ with_machine kept.old (gicr_written kept.old.machine vcpu offset size value) }
+    ensures rare { result ≡ codes.no_memory
+        → enables kept.old.machine vcpu offset size value ≡ true }
+    ensures refused { result ≢ codes.done → kept.new ≡ kept.old }
 {
     if !(has_vcpu(kept.machine(), vcpu) && is_size(size)) {
         return RANGE;
     }
     let call = Call::WriteGicr {
-        vcpu: Vcpu(vcpu as u8),
+        vcpu: Vcpu(vcpu as u16),
         off: offset,
         size: size as u8,
         value,
     };
-    let Ok(_) = kept.answer(alloc, &call) else {
-        unreachable!()
-    };
-    DONE
+    match kept.answer(alloc, &call) {
+        Ok(_) => DONE,
+        Err(_) => NO_MEMORY,
+    }
 }
 
 /// The values that the LPI registers of a redistributor are restored from.

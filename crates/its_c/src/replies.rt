@@ -69,8 +69,9 @@ pub struct StepOut {
     pub reason: u32,
     /// Where the command is whose bytes don't lie in one window, else 0.
     pub address: u64,
-    /// Bit v: the pending LPIs or the configuration of virtual processor v may have changed.
-    pub concerned: u32,
+    /// Bit v % 64 of word v / 64: the pending LPIs or the configuration of virtual processor v may
+    /// have changed.
+    pub concerned: [u64; 8],
 }
 
 // A cause as its number.
@@ -117,7 +118,7 @@ pub fn event_out(destination: Destination) -> EventOut
     }
 }
 
-fn event_numbers(cause: u32, intid: u32, collection: u16, vcpu: u8) -> EventOut
+fn event_numbers(cause: u32, intid: u32, collection: u16, vcpu: u16) -> EventOut
     ensures { result ≡ record {
       cause = cause;
       intid = intid;
@@ -190,7 +191,7 @@ fn reason_number(reason: Reason) -> u32
 }
 
 /// A step's answer, and whom it concerns.
-pub fn step_out(step: StepReply, concerned: u32) -> StepOut
+pub fn step_out(step: StepReply, concerned: [u64; 8]) -> StepOut
     ensures { result ≡ spec.step_out step concerned }
 {
     match step {

@@ -1,6 +1,7 @@
 //! Stretches of guest memory, told in lists: what the next step reads, and what a save writes.
-ghost use Rattle.std.specs.Prelude.{◌≡◌, ◌≢◌, ◌⊎◌, length, map};
+ghost use Rattle.std.specs.Prelude.{◌≡◌, ◌≢◌, ◌⊎◌, ◌≤◌, ◌+◌, length, map, slice_set};
 ghost use Rattle.guest_windows.specs.Fields.{pairs};
+ghost use Rattle.its_types.specs.Ranges.{most_vcpus};
 ghost use Rattle.its_c.specs.Codes as codes;
 ghost use Rattle.its_c.specs.Stretches.{needed, written_tables as tables, stretch_out};
 ghost use Rattle.its_c.specs.Stretches.{HasFirstOf, SameRest};
@@ -10,7 +11,7 @@ use crate::codes::{DONE, NO_MEMORY};
 use crate::kept::Kept;
 use its_types::Addr;
 use std::alloc::Global;
-use step_views::{Stretch, needs};
+use step_views::{Needs, Stretch, needs};
 use table_save::written_tables;
 
 /// A stretch of guest memory.
@@ -32,25 +33,35 @@ pub fn needed(kept: &Kept, list: &mut [StretchOut], count: &mut u64) -> u32
     ensures length { length list.new ≡ length list.old }
     ensures count { count.new ≡ length (needed kept.now.machine) }
 {
-    let needs = needs(kept.machine().parts(), 0);
-    put_needs(needs.as_slice(), list);
-    *count = needs.as_slice().len() as u64;
+    *count = put_needs(needs(kept.machine().parts(), 0), list);
     DONE
 }
 
-// As many of the stretches as the list takes.
-fn put_needs(needs: &[Stretch], list: &mut [StretchOut])
-    ensures told { HasFirstOf (map stretch_out (map pair_of needs.now)) list.new }
-    ensures rest { SameRest (length needs.now) list.old list.new }
+// As many of the stretches as the list takes. How many there are.
+fn put_needs(needs: Needs<'_>, list: &mut [StretchOut]) -> u64
+    requires few { length needs ≤ most_vcpus + 1 }
+    ensures told { HasFirstOf (map stretch_out needs.entry) list.new }
+    ensures rest { SameRest (length needs.entry) list.old list.new }
     ensures length { length list.new ≡ length list.old }
+    ensures count { result ≡ length needs.entry }
 {
     let mut at = 0;
-    while at < needs.len() && at < list.len() {
-        list[at] = StretchOut {
-            address: needs[at].address.0,
-            length: needs[at].length,
-        };
+    for stretch in needs {
+        put(list, at, stretch);
         at += 1;
+    }
+    at as u64
+}
+
+// Puts a stretch into its place, if the list has it.
+fn put(list: &mut [StretchOut], at: usize, stretch: Stretch)
+    ensures { list.new ≡ slice_set list.old at (stretch_out (pair_of stretch)) }
+{
+    if at < list.len() {
+        list[at] = StretchOut {
+            address: stretch.address.0,
+            length: stretch.length,
+        };
     }
 }
 

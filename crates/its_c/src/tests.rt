@@ -93,7 +93,7 @@ pub const NO_STEP: StepOut = StepOut {
     op: 0,
     reason: 0,
     address: 0,
-    concerned: 0,
+    concerned: [0; 8],
 };
 
 /// A machine, and what making it answers.

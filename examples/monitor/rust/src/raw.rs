@@ -131,7 +131,7 @@ pub struct Step {
     pub op: u32,
     pub reason: u32,
     pub address: u64,
-    pub concerned: u32,
+    pub concerned: [u64; 8],
 }
 
 extern "C" {
