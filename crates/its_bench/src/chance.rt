@@ -40,7 +40,7 @@ impl Chance {
 
     /// A virtual processor.
     pub fn vcpu(&mut self) -> Vcpu {
-        Vcpu(self.below(4) as u8)
+        Vcpu(self.below(4) as u16)
     }
 
     fn icid(&mut self) -> u16 {

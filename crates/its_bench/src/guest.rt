@@ -78,18 +78,34 @@ impl Queue {
 
 impl Queue {
     /// Has the translator carry this command out over and over.
-    pub fn rounds(mut self, alloc: Global, command: &Command) -> Result<Rounds, AllocError> {
+    pub fn rounds(self, alloc: Global, command: &Command) -> Result<Rounds, AllocError> {
+        self.rounds_of_both(alloc, command, command)
+    }
+
+    /// Has the translator carry these commands out by turns, over and over.
+    pub fn rounds_of_both(
+        mut self,
+        alloc: Global,
+        first: &Command,
+        second: &Command,
+    ) -> Result<Rounds, AllocError> {
         let mut before = Vec::new(alloc);
         let mut calls = Vec::new(alloc);
-        self.fill(&mut before, command)?;
+        self.fill(&mut before, first, second)?;
         self.go_round(&mut calls)?;
         Ok(Rounds { before, calls })
     }
 
-    // Writes the command into each place.
-    fn fill(&mut self, asks: &mut Vec<Ask>, command: &Command) -> Result<(), AllocError> {
-        for _ in 0..QUEUE_PLACES {
-            self.write(asks, command)?;
+    // Writes the commands into all places, by turns.
+    fn fill(
+        &mut self,
+        asks: &mut Vec<Ask>,
+        first: &Command,
+        second: &Command,
+    ) -> Result<(), AllocError> {
+        for _ in 0..QUEUE_PLACES / 2 {
+            self.write(asks, first)?;
+            self.write(asks, second)?;
         }
         Ok(())
     }
@@ -128,6 +144,13 @@ impl Rounds {
     pub fn of(alloc: Global, call: Ask) -> Result<Rounds, AllocError> {
         let mut rounds = Rounds::none(alloc);
         rounds.calls.push(call)?;
+        Ok(rounds)
+    }
+
+    /// Two calls, by turns.
+    pub fn of_both(alloc: Global, first: Ask, second: Ask) -> Result<Rounds, AllocError> {
+        let mut rounds = Rounds::of(alloc, first)?;
+        rounds.calls.push(second)?;
         Ok(rounds)
     }
 }
@@ -184,7 +207,7 @@ pub fn mapd_wide(dev: DeviceId, bits: u8) -> Command
 }
 
 /// Maps a device of a translator with 16 events to a table of its own, which has this number.
-pub fn mapd(its: u8, dev: DeviceId, table: u8) -> Command {
+pub fn mapd(its: u8, dev: DeviceId, table: u16) -> Command {
     Command::Mapd {
         dev,
         bits: EventIdBits::new(4),

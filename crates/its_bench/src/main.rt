@@ -4,6 +4,8 @@
 //! - `time COUNT [NAME]` prints how many nanoseconds a call took, of each kind or of the one named.
 //! - `beside COUNT [NAME]` prints how long so many signals took beside a thread that makes other
 //!   calls all the time: the middle one, the 99th and the 99.9th of a hundred, and the longest.
+//! - `many COUNT [NAME]` prints how many nanoseconds a call took on a machine of 16 processors and
+//!   on one of 512.
 //! - `stress COUNT [NAME]`: so many calls of threads beside one that changes what they meet, of
 //!   which each reply is checked; all trials, or the one named.
 //! - `events COUNT`, `devices COUNT`: signals of the machine of one caller, for a clock outside
@@ -18,6 +20,7 @@ mod copying;
 mod guest;
 mod latencies;
 mod machine;
+mod many;
 mod measure;
 mod memory;
 mod play;
@@ -32,7 +35,9 @@ mod trials;
 mod turning;
 
 use beside::{BESIDE, time_beside};
+use its_types::MOST_VCPUS;
 use latencies::Latencies;
+use many::{MANY, SIZES, time_many};
 use measure::Lap;
 use play::{Mapped, play};
 use std::alloc::Global;
@@ -103,6 +108,24 @@ fn print_beside<R: Clock + Print + AllocGlobal + Threads + Wait + Sync>(
     Ok(())
 }
 
+// Makes calls on machines of either size, of each kind or of the one with this name, and prints
+// what they took.
+fn print_many<R: Clock + Print + AllocGlobal + Wait>(
+    rt: &R,
+    count: u32,
+    only: Option<&str>,
+) -> io::Result<()> {
+    for (name, many) in MANY {
+        if only.is_none_or(|only| only == name) {
+            for vcpus in SIZES {
+                let lap = time_many(rt, rt.alloc(), many, vcpus, count)?;
+                print_time(rt, &format!(in rt.alloc(); "{name}-of-{vcpus}")?, &lap)?;
+            }
+        }
+    }
+    Ok(())
+}
+
 fn print_count<R: Print>(rt: &R, name: &str, calls: u64) -> io::Result<()> {
     println!(rt; "{name}: {calls} calls")
 }
@@ -116,6 +139,10 @@ fn print_counts<R: Clock + Print + AllocGlobal + Threads + Wait + Sync>(rt: &R) 
     for (name, beside) in BESIDE {
         let latencies = time_beside(rt, rt.alloc(), beside, FEW)?;
         print_count(rt, name, latencies.count() as u64)?;
+    }
+    for (name, many) in MANY {
+        let lap = time_many(rt, rt.alloc(), many, MOST_VCPUS, FEW)?;
+        print_count(rt, name, lap.calls)?;
     }
     Ok(())
 }
@@ -195,6 +222,10 @@ fn run<R: Clock + Print + AllocGlobal + Threads + Wait + Sync>(
         }
         "beside" => {
             print_beside(rt, count, words.get(3).map(|word| word.as_str()))?;
+            Ok(OK)
+        }
+        "many" => {
+            print_many(rt, count, words.get(3).map(|word| word.as_str()))?;
             Ok(OK)
         }
         "stress" => check_trials(rt, count, true, words.get(3).map(|word| word.as_str())),

@@ -1,4 +1,4 @@
-//! A machine of four virtual processors, for threads to share.
+//! A machine for threads to share.
 ghost use Rattle.std.specs.Prelude.{◌≡◌, ◌+◌, ◌^◌, ◌<◌, ◌≤◌, length, IfOk};
 ghost use Rattle.its_plain.specs.Machine.{IsDescription, HasTablesFor};
 ghost use Rattle.its_turns.specs.Machines.{view};
@@ -8,11 +8,11 @@ use gicr_regs::{GicrRegisters, GicrValues};
 use its_migrate::share;
 use its_plain::{Desc, Fill, Its, LpiTables, RequesterRanges};
 use its_turns::{Machine, Pass, Root};
-use its_types::{Addr, Limits, Listed, Profile, Shape};
+use its_types::{Addr, Limits, Listed, MOST_VCPUS, Profile, Shape};
 use std::alloc::{AllocError, Global};
 
-/// How many virtual processors it has.
-pub const VCPUS: u8 = 4;
+/// How many virtual processors it has, unless it is told.
+pub const VCPUS: u16 = 4;
 
 /// Where its memory begins.
 pub const MEMORY: u64 = 0x8000_0000;
@@ -33,6 +33,8 @@ const STAMPS_OF_TWO: u32 = 4095;
 /// What a machine has.
 #[derive(Clone, Copy)]
 pub struct Kind {
+    /// How many virtual processors, 1 to 512.
+    pub vcpus: u16,
     /// The last stamp, 16,777,215 at most; of two translators 4,095.
     pub stamp_last: u32,
     /// Whether there are two translators.
@@ -47,6 +49,7 @@ pub struct Kind {
 
 /// One translator, and two MiB of memory.
 pub const SINGLE: Kind = Kind {
+    vcpus: VCPUS,
     stamp_last: STAMPS,
     two: false,
     programmed: false,
@@ -65,9 +68,10 @@ pub fn desc(alloc: Global, kind: Kind) -> Result<Desc, AllocError>
 {
     let translators = translators(alloc, kind.two)?;
     let limits = limits(kind.stamp_last, translators.len());
+    let vcpus = kind.vcpus.clamp(1, MOST_VCPUS);
     Ok(Desc {
         shape: Shape {
-            vcpus: VCPUS,
+            vcpus,
             dev_bits: 16,
             lpi_bits: 16,
             profile: Profile::One,
@@ -77,7 +81,7 @@ pub fn desc(alloc: Global, kind: Kind) -> Result<Desc, AllocError>
         limits,
         windows: windows(alloc, kind.memory)?,
         memory_limit: u64::MAX,
-        tables: tables(alloc, kind.programmed)?,
+        tables: tables(alloc, kind.programmed, vcpus)?,
         fills: fills(alloc)?,
         translators,
         requesters: RequesterRanges::none(alloc),
@@ -124,19 +128,18 @@ const OFF: GicrRegisters = GicrRegisters {
 };
 
 // LPIs are on at tables of their own, or the guest programs the LPI registers.
-fn tables(alloc: Global, programmed: bool) -> Result<LpiTables, AllocError>
-    ensures { IfOk result (HasTablesFor 4) }
+fn tables(alloc: Global, programmed: bool, vcpus: u16) -> Result<LpiTables, AllocError>
+    ensures { IfOk result (HasTablesFor vcpus) }
 {
     if programmed {
         return Ok(LpiTables::Registers(GicrValues {
-            registers: [OFF; 16],
+            registers: Listed::from_vec(vec![in alloc; OFF; usize::from(vcpus)]?),
         }));
     }
     let mut pending = Listed::new(alloc);
-    pending.push(Addr(PENDING))?;
-    pending.push(Addr(PENDING + 0x1_0000))?;
-    pending.push(Addr(PENDING + 0x2_0000))?;
-    pending.push(Addr(PENDING + 0x3_0000))?;
+    for vcpu in 0..vcpus {
+        pending.push(Addr(PENDING + 0x1_0000 * u64::from(vcpu)))?;
+    }
     let config = Addr(CONFIG);
     Ok(LpiTables::Described { config, pending })
 }

@@ -37,9 +37,9 @@ pub fn map_devices(alloc: Global, its: u8) -> Result<(Vec<Ask>, Queue), AllocErr
     let mut queue = Queue::new(its);
     begin(&mut asks, its)?;
     for vcpu in 0..VCPUS {
-        queue.run(&mut asks, &mapc(u16::from(vcpu), Vcpu(vcpu)))?;
+        queue.run(&mut asks, &mapc(vcpu, Vcpu(vcpu)))?;
     }
-    let mut number = 0u8;
+    let mut number = 0u16;
     for dev in DEVICES {
         map_device(&mut asks, &mut queue, its, dev, number % VCPUS)?;
         number = number.wrapping_add(1);
@@ -53,14 +53,14 @@ fn map_device(
     queue: &mut Queue,
     its: u8,
     dev: DeviceId,
-    number: u8,
+    number: u16,
 ) -> Result<(), AllocError>
     requires { number < 4 }
 {
     queue.run(asks, &mapd(its, dev, number))?;
     for ev in 0..EVENTS {
         let intid = Intid(8192 + 64 * u32::from(number) + ev);
-        queue.run(asks, &mapti(dev, EventId(ev), intid, u16::from(number)))?;
+        queue.run(asks, &mapti(dev, EventId(ev), intid, number))?;
     }
     Ok(())
 }

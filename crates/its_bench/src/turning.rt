@@ -26,14 +26,14 @@ fn write(vcpu: Vcpu, off: u32, size: u8, value: u64) -> Ask {
     }
 }
 
-// Turns a virtual processor's LPIs on or off.
-fn turn(vcpu: Vcpu, on: bool) -> Ask {
+/// Turns a virtual processor's LPIs on or off.
+pub fn turn(vcpu: Vcpu, on: bool) -> Ask {
     write(vcpu, 0x0, 4, u64::from(on))
 }
 
-// Gives each virtual processor its tables, and turns its LPIs on.
-fn begin(asks: &mut Vec<Ask>) -> Result<(), AllocError> {
-    for vcpu in 0..VCPUS {
+/// Gives each of so many virtual processors its tables, and turns its LPIs on.
+pub fn turn_on(asks: &mut Vec<Ask>, vcpus: u16) -> Result<(), AllocError> {
+    for vcpu in 0..vcpus {
         let pending = PENDING + 0x1_0000 * u64::from(vcpu);
         asks.push(write(Vcpu(vcpu), 0x70, 8, CONFIG | 0xf))?;
         asks.push(write(Vcpu(vcpu), 0x78, 8, pending))?;
@@ -71,7 +71,7 @@ fn turning(alloc: Global, turns: u32) -> Result<Vec<Ask>, AllocError> {
 // Gives the processors their tables, and maps the devices.
 fn mapping(alloc: Global) -> Result<Vec<Ask>, AllocError> {
     let mut asks = Vec::new(alloc);
-    begin(&mut asks)?;
+    turn_on(&mut asks, VCPUS)?;
     let (others, _) = map_devices(alloc, 0)?;
     for ask in others.as_slice() {
         asks.push(*ask)?;
