@@ -1,6 +1,6 @@
 #!/usr/bin/env python3
 """`its` plays random scripts and saves; KVM restores what was saved, is compared with `its`, and saves again; and `its`
-restores that.
+restores that. Where entries of collections that aren't mapped were saved, KVM must refuse the same tables without them.
 
 usage: back.py DIR PROGRAM [--kernel VERSION ..] [--seeds FIRST COUNT] [--steps N] [--keep DIR]
 """
@@ -13,7 +13,7 @@ from random_guest import Guest
 from rounds import Restored, everything, run_here
 from script import Script
 
-REFUSED = "a collection that an event names and that isn't mapped has no entry here: KVM's restore answers EINVAL"
+EINVAL = 22
 
 
 def save_here(seed, count, version, program, tally):
@@ -37,17 +37,11 @@ class Missing:
         return self
 
 
-def refused(seed, kept):
-    """Where a collection has no entry: that KVM refuses the tables as they are."""
-    script = Script(f"refused-{seed}", kept.shape, kept)
-    script.checks = []
-    return script
-
-
 def read_back(program, one, answers, seed, tally, keep):
     """What KVM saved after the restore: the same as what it restored, and the same here."""
     again = image.from_kvm(one.script, answers, one.again)
     one.compare_saved(again.words, again.words, tally)
+    tally.counts["machines whose tables KVM saved again byte for byte"] += one.image.saved() == again.saved()
     script = Script(f"again-{seed}", one.script.shape, again)
     here = Restored(script, again)
     report = run_here(program, script, Missing(), tally, keep)
@@ -75,22 +69,20 @@ def restore_there(given, version, kernel, seeds, tally):
     saved = boot.several(lambda seed: (seed, save_here(seed, given.steps, version, given.program, tally)),
                          [(seed,) for seed in seeds])
     kept = {seed: one for seed, one in saved if one}
-    lacking = [refused(seed, one) for seed, one in kept.items() if one.named_unmapped()]
-    restored = {}
-    for seed, one in kept.items():
-        whole = one.with_unmapped()
-        restored[seed] = Restored(Script(f"back-{seed}", one.shape, whole), whole, True)
+    lacking = [Script(f"lacking-{seed}", one.shape, one.without_unmapped()) for seed, one in kept.items()
+               if one.unmapped()]
+    restored = {seed: Restored(Script(f"back-{seed}", one.shape, one), one, True) for seed, one in kept.items()}
     told, answers, trouble = boot.play(given.folder, kernel, lacking + [one.script for one in restored.values()])
     for script, answer in zip(lacking, answers):
-        if answer and answer[0].number == 22:
-            tally.named[REFUSED] += 1
+        if answer and answer[0].number == EINVAL:
+            tally.agree("tables without the entries of collections that aren't mapped, which KVM refuses")
         else:
             tally.differ(script, "KVM restores it without an entry")
     pieces = [(given, seed, one, answer) for (seed, one), answer in zip(restored.items(), answers[len(lacking):])]
     for one in boot.several(compare, pieces):
         tally.add(one)
-    tell(f"{version}: {told}: {len(kept)} saved here, {len(lacking)} of them without an entry that KVM wants", tally,
-         trouble)
+    tally.counts["entries of collections that aren't mapped"] += sum(len(one.unmapped()) for one in kept.values())
+    tell(f"{version}: {told}: {len(kept)} saved here, {len(lacking)} with collections that aren't mapped", tally, trouble)
 
 
 def main():

@@ -8,7 +8,7 @@ QUIESCENT = "GITS_CTLR.Quiescent: here 0 while enabled"
 IR = "GICR_CTLR.IR: KVM reads 1"
 ONE_PROPBASER = "GICR_PROPBASER: KVM has one for all processors"
 DESIGNER = "GITS_PIDR2: the designer's bits"
-SECOND = "a second event of an LPI: KVM 7.3 restores it, and drops its signals"
+SECOND = "a second event of an LPI: KVM 7.3 passes over it at a restore, and its signals are dropped"
 IDENTIFICATION = "ID registers: here zero"
 
 
@@ -119,7 +119,8 @@ class Comparison:
 
     def signal_of_second(self, answer, call):
         """A signal of an event whose LPI another event has too."""
-        if self.answers[answer].number == 0 and self.report.replies[call].startswith("delivered"):
+        reply = self.report.replies[call]
+        if self.answers[answer].number == 0 and reply.startswith(("delivered", "dropped disabled", "dropped lpis-off")):
             self.tally.named[SECOND] += 1
         else:
             self.signal(answer, call)

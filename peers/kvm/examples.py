@@ -68,7 +68,7 @@ def main():
         report = run_here(given.program, one, answer, tally, given.out)
         tally.add(Comparison(one, answer, report).run())
         if one is restored.script:
-            restored.compare(answer, report, tally)
+            restored.compare(answer, report, tally, True)
     tell(f"{version}: {told}", tally, trouble + more)
     return bool(tally.others)
 

@@ -47,19 +47,25 @@ class Image:
         maps = self.maps
         return [intid for intid in self.pending(v) if maps.one_target(intid) == v]
 
-    def named_unmapped(self):
-        """The ICIDs that events name and that have no entry."""
-        maps = self.maps
-        return sorted({icid for d, e, intid, icid in maps.all_events()} - maps.collections.keys())
+    def unmapped(self):
+        """The ICIDs that have an entry and aren't mapped."""
+        return [icid for icid, target in self.maps.collections.items() if target == layout.UNMAPPED]
 
-    def with_unmapped(self):
-        """The same with entries for them, as KVM writes them and wants them at a restore."""
+    def without_unmapped(self):
+        """The same without their entries, which KVM wants at a restore where an event names them."""
         words = dict(self.words)
-        address = layout.COLLECTIONS + 8 * len(tables.collections(words))
-        for icid in self.named_unmapped():
-            words[address] = layout.VALID | layout.UNMAPPED << 16 | icid
-            address += 8
+        for i in range(len(self.maps.collections)):
+            del words[layout.COLLECTIONS + 8 * i]
+        mapped = [(icid, target) for icid, target in self.maps.collections.items() if target != layout.UNMAPPED]
+        for i, (icid, target) in enumerate(mapped):
+            words[layout.COLLECTIONS + 8 * i] = layout.VALID | target << 16 | icid
         return Image(self.shape, words, self.registers, self.redistributors)
+
+    def saved(self):
+        """The words of all tables but those of pending LPIs."""
+        found = [*self.stretches(), (layout.COLLECTIONS, 128)]
+        return {address: self.words.get(address, 0)
+                for start, length in found for address in range(start, start + length, 8)}
 
     def stretches(self):
         """Where tables stand: entries of devices, tables of events as far as they are used, collections."""

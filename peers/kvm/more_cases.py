@@ -1,6 +1,9 @@
 """More cases of differences, as in cases.py: where LPIs are off, tables that weren't emptied, faults of one kernel."""
 import layout
 from cases import case
+from image import Image
+from layout import Shape
+from script import Script
 from small import Small
 
 
@@ -184,4 +187,48 @@ def stale_pending():
     s.see(False)
     s.migrate_both()
     s.see(False)
+    return s
+
+
+
+def standing(title, events, last=None):
+    """A machine that both restore from the same tables: device 16 with these events, and collection c at processor c.
+
+    `last` is the PENDBASER of processor 3, and whether its LPIs are on.
+    """
+    shape = Shape()
+    tables = {
+        layout.COLLECTIONS: [layout.VALID | icid << 16 | icid for icid in (1, 2, 3)],
+        shape.device_entry(16): [layout.VALID | layout.ITTS >> 3 | 2],
+        layout.ITTS: events,
+        layout.CONFIG: [0xA1A1A1A1A1A1A1A1] * 12,
+    }
+    words = {start + 8 * i: word for start, table in tables.items() for i, word in enumerate(table)}
+    registers = [(layout.CBASER, shape.cbaser), (layout.CREADR, 0), (layout.CWRITER, 0), (layout.BASER0, shape.baser0),
+                 (layout.BASER1, shape.baser1), (layout.CTLR, 1)]
+    redistributors = [(shape.propbaser, shape.pendbaser(v), 1) for v in range(3)]
+    redistributors.append((shape.propbaser, *((shape.pendbaser(3), 1) if last is None else last)))
+    return Script(title, shape, Image(shape, words, registers, redistributors))
+
+
+@case
+def shared_restored():
+    """Tables with two events of one LPI: KVM 7.3 restores the first alone, and saves no other"""
+    s = standing("shared_restored", [1 << 48 | 8200 << 16 | 1, 2 << 48 | 8201 << 16 | 2, 0, 8200 << 16 | 2])
+    for event in (0, 1, 3):
+        s.signal(16, event)
+    s.save(True)
+    for v in range(4):
+        s.see_pending(v, False)
+    s.check("words", *s.see_words([(layout.ITTS, 64)]))
+    return s
+
+
+@case
+def no_table_restored():
+    """Tables with an event of a processor that has no pending table: KVM's restore answers EFAULT"""
+    s = standing("no_table_restored", [1 << 48 | 8200 << 16 | 1, 8201 << 16 | 3], (0, 0))
+    s.signal(16, 0)
+    s.signal(16, 1)
+    s.save(False)
     return s

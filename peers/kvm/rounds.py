@@ -10,7 +10,15 @@ from image import Image
 STALE = "pending bits of LPIs that no event sends to this processor: KVM leaves them, and reads none"
 SHARED = "two events of one LPI: KVM sends both to the processor of the first"
 LOST = "an event's `next` leads to one that lost its collection, whose entry KVM writes as zero"
+PASSED = "an event's `next` leads past the second event of an LPI: KVM 7.3 passes over it at a restore"
 UNREACHED = "an entry of an earlier save that no walk reaches: KVM leaves it, here it is zero"
+SAME = "signals to the same LPI and processor"
+SAME_LATER = "the same, by collections that weren't mapped as the machine moved"
+
+
+def same_but_next(one, other):
+    """Whether two entries of events are the same but for `next`."""
+    return (one ^ other) & (1 << 48) - 1 == 0
 
 
 def pending_stretches(shape):
@@ -48,15 +56,25 @@ class Restored:
         self.bits = script.peeks(pending_stretches(script.shape))
         self.signals = []
         for device, event, intid, _ in image.maps.all_events():
-            self.signal_alone(device, event, intid)
+            self.signal_alone(device, event, intid, SAME)
+        self.map_others()
 
-    def signal_alone(self, device, event, intid):
+    def map_others(self):
+        """Collections that aren't mapped are now, and their events are signalled but those that share an LPI."""
+        working = [v for v, (_, _, on) in enumerate(self.image.redistributors) if on]
+        for icid in self.image.unmapped() if working else ():
+            self.script.command("mapc", icid, working[icid % len(working)])
+            for device, event, intid, of in self.image.maps.all_events():
+                if of == icid and self.image.maps.is_alone(intid):
+                    self.signal_alone(device, event, intid, SAME_LATER)
+
+    def signal_alone(self, device, event, intid, kind):
         """A signal of an event whose LPI isn't pending, and what KVM then has pending."""
         script = self.script
         script.command("clear", device, event)
         first = self.image.maps.first_event(intid) == (device, event)
         answer, call = script.signal(device, event, "signal" if first else "signal_of_second")
-        self.signals.append((intid, answer, call, script.see_pending_alone()))
+        self.signals.append((kind, intid, answer, call, script.see_pending_alone()))
 
     def compare(self, answers, report, tally, from_kvm=False):
         self.compare_tables(report, tally)
@@ -85,15 +103,18 @@ class Restored:
                 tally.agree("words of tables")
         elif ours == 0 and address not in self.reached:
             tally.named[UNREACHED] += 1
-        elif self.leads_to_lost(address, theirs, ours):
+        elif same_but_next(theirs, ours) and address + 8 * (theirs >> 48) in self.seconds:
+            tally.named[PASSED] += 1
+        elif same_but_next(theirs, ours) and not self.image.words.get(address + 8 * (theirs >> 48), 0):
             tally.named[LOST] += 1
         else:
             tally.differ(self.script, f"word {address:#x} was {theirs:#x}, and is {ours:#x}")
 
-    def leads_to_lost(self, address, theirs, ours):
-        """Whether an event's entry is the same but for `next`, which leads to a place that has none."""
-        place = address + 8 * (theirs >> 48)
-        return (theirs ^ ours) << 16 & (1 << 64) - 1 == 0 and not self.image.words.get(place, 0)
+    @functools.cached_property
+    def seconds(self):
+        """Where entries stand of events whose LPI an earlier event has."""
+        maps = self.image.maps
+        return {maps.tables[d][0] + 8 * e for d, e, intid, _ in maps.all_events() if maps.first_event(intid) != (d, e)}
 
     @functools.cached_property
     def reached(self):
@@ -120,13 +141,13 @@ class Restored:
         target = self.image.maps.one_target(intid)
         return [] if target is None else [target]
 
-    def compare_signal(self, answers, report, tally, intid, signal, call, pending):
+    def compare_signal(self, answers, report, tally, kind, intid, signal, call, pending):
         reply = report.replies[call].split()
         if reply[0] != "delivered" or answers[signal].number != 1:
             return
         where = [v for v, answer in enumerate(pending) if intid in answers[answer].numbers]
         if where == [int(reply[1])] and intid == int(reply[2]):
-            tally.agree("signals to the same LPI and processor")
+            tally.agree(kind)
         elif where == self.first_target(intid) and intid == int(reply[2]):
             tally.named[SHARED] += 1
         else:

@@ -1,6 +1,8 @@
 """Entries of saved tables, and how two saves of one state may differ."""
 import layout
 
+UNNAMED = "KVM keeps the entry of a collection that isn't mapped and that no event names any more"
+
 
 def device_fields(word):
     """The interrupt translation table and the EventID bits of a device's entry."""
@@ -32,11 +34,12 @@ def collection_differences(theirs, ours):
     names = []
     mapped = [entry for entry in theirs if entry[1] != layout.UNMAPPED]
     here = [entry for entry in ours if entry[1] != layout.UNMAPPED]
-    if sorted(mapped) != sorted(here):
+    if sorted(mapped) != sorted(here) or not set(ours) <= set(theirs):
         return None
-    if {entry for entry in theirs if entry not in mapped} != {entry for entry in ours if entry not in here}:
-        names.append("a collection that isn't mapped has an entry with target 0xffffffff")
-    if mapped != here:
+    alone = {entry for entry in theirs if entry not in mapped} - {entry for entry in ours if entry not in here}
+    if alone:
+        names.append(UNNAMED)
+    if [entry for entry in theirs if entry not in alone] != ours:
         names.append("collections stand in the order in which they came")
     return names
 
@@ -63,6 +66,10 @@ class Maps:
     def first_event(self, intid):
         """The first event of an LPI, or None."""
         return next(((d, e) for d, e, lpi, icid in self.all_events() if lpi == intid), None)
+
+    def is_alone(self, intid):
+        """Whether one event has this LPI."""
+        return sum(lpi == intid for _, _, lpi, _ in self.all_events()) == 1
 
     def one_target(self, intid):
         """The processor that KVM's restore gives an LPI: that of its first event."""

@@ -9,7 +9,6 @@ second.
 import boot
 import image
 import steps
-from back import REFUSED
 from compare import Comparison, Tally
 from play import arguments, shares, some_shape, tell
 from random_guest import Guest
@@ -56,9 +55,7 @@ class Traveller:
             self.image = image.from_kvm(script, answers, self.there)
         else:
             self.image = image.from_report(script, report, self.here)
-            if self.image.named_unmapped():
-                self.tally.named[REFUSED] += 1
-                self.image = self.image.with_unmapped()
+        self.tally.counts["entries of collections that aren't mapped, moved"] += len(self.image.unmapped())
         return True
 
 
