@@ -84,7 +84,7 @@ class Model:
                 break
             if line[:1] == ["profile"]:
                 self.profile = number(line[1])
-            elif line[:1] == ["vcpus"]:
+            elif line[:1] in (["vcpus"], ["processors"]):
                 self.vcpus = number(line[1])
             elif line[:1] == ["bytes"]:
                 self.write(number(line[1]), bytes.fromhex(line[2]), at)
