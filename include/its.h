@@ -268,9 +268,10 @@ struct its_step_out {
     uint32_t reason;  /* of enum its_reason, of a refused command */
     uint64_t address; /* of a command whose bytes don't lie in one window */
     /*
-     * Bit V % 64 of word V / 64 is set where what its_show and its_best tell of virtual processor V may
-     * have changed. Where it is clear, that processor has the pending LPIs and the configuration that it
-     * had.
+     * Bit V % 64 of word V / 64 is set where the command read or changed the pending LPIs or the
+     * configuration of virtual processor V, so what its_show and its_best tell of it may be another. Where
+     * it is clear, that processor has the pending LPIs and the configuration that it had. No bit is set
+     * where no command ran.
      */
     uint64_t concerned[8];
 };

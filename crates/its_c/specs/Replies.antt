@@ -1,5 +1,5 @@
 -- Replies as numbers.
-use Rattle.std.specs.Prelude.{◌≡◌, ◌⊎◌, ◌<◌, ℕ, List, false, slice_get}
+use Rattle.std.specs.Prelude.{◌≡◌, ◌⊎◌, ◌<◌, ℕ, List, true, false, slice_get}
 use Rattle.its_types.specs.Bitmap.{word_bit}
 use Rattle.its_types.specs.Ranges.{most_vcpus}
 use Rattle.its_command.specs.Opcodes.{opcode}
@@ -18,6 +18,7 @@ use Rattle.its_plain.specs.declared.call.Reply.TheVariants as replies
 use Rattle.its_plain.specs.declared.call.Route.{Route}
 use Rattle.its_plain.specs.declared.call.Route.TheVariants as route
 use Rattle.its_plain.specs.Plain.{Plain}
+use Rattle.step_views.specs.Concern.{IsConcerned}
 use Rattle.step_views.specs.declared.destination.Destination.{Destination}
 use Rattle.step_views.specs.declared.destination.Destination.TheVariants as to
 use Rattle.its_c.specs.Codes as codes
@@ -103,6 +104,10 @@ step_out (steps.QueueFault at) c = record { outcome = 3; op = 0; reason = 0; add
 abbrev pub UnconcernedStay : List ℕ → Plain → Plain → Type 0
 UnconcernedStay concerned u w =
     (vcpu : ℕ) → vcpu < most_vcpus → word_bit concerned vcpu ≡ false → slice_get w.redistributors vcpu ≡ slice_get u.redistributors vcpu
+
+-- one whose bit is set had its pending LPIs or its configuration read or changed by a command that wasn't refused
+abbrev pub AreConcerned : List ℕ → Plain → Type 0
+AreConcerned concerned u = (vcpu : ℕ) → vcpu < most_vcpus → word_bit concerned vcpu ≡ true → IsConcerned u 0 vcpu
 
 -- what a step may answer, of a handle with a machine
 abbrev pub IsStepCode : ℕ → Type 0

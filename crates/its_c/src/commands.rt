@@ -23,6 +23,8 @@ pub fn step(kept: &mut Kept, alloc: Global, out: &mut StepOut) -> u32
         ≡ replies.step_out (plain.step_reply kept.old.machine 0) out.new.concerned }
     ensures unconcerned { result ≡ codes.done
         → replies.UnconcernedStay out.new.concerned kept.old.machine kept.new.machine }
+    ensures concerned { result ≡ codes.done
+        → replies.AreConcerned out.new.concerned kept.old.machine }
     ensures left { result ≡ codes.done
         → kept.new ≡ with_machine kept.old (plain.step_left kept.old.machine 0) }
     ensures full { result ≡ codes.full → is_full kept.old.limit kept.old.machine ≡ true }

@@ -50,6 +50,8 @@ pub extern "C" fn its_step(handle: &mut Handle, alloc: Global, out: &mut StepOut
         → out.new ≡ replies.step_out (step_reply u 0) out.new.concerned) }
     ensures unconcerned { InMachine handle.old handle.new (λ u w.
         result ≡ codes.done → replies.UnconcernedStay out.new.concerned u w) }
+    ensures concerned { InMachine handle.old handle.new (λ u w.
+        result ≡ codes.done → replies.AreConcerned out.new.concerned u) }
     ensures left { InMachine handle.old handle.new (λ u w.
         result ≡ codes.done → w ≡ step_left u 0) }
     ensures full { InHeld handle.old handle.new (λ h k.

@@ -52,9 +52,9 @@ const WORDS: [(u64, u64); 32] = [
     (0x8002_01c0, 0x5_0000_0008),
 ];
 
-// What the next command reads beside its own bytes; the virtual processors that it concerns, and
-// whether it adds an event. Then, once it is taken, where event 3 of device 5 leads, and how many
-// events are mapped.
+// What the next command reads beside its own bytes; the virtual processors that it concerns, none
+// where it is refused; and whether it adds an event. Then, once it is taken, where event 3 of
+// device 5 leads, and how many events are mapped.
 type Row = (Option<Stretch>, [bool; 4], bool, Destination, u64);
 
 // The level-1 entry of the first devices, the configuration byte of LPI 8199, and the whole table,
@@ -95,14 +95,14 @@ const ROWS: [Row; 15] = [
     (LEVEL1, NONE, false, NO_EVENT, 0),
     (None, NONE, false, NO_EVENT, 0),
     (None, NONE, false, NO_EVENT, 0),
-    (None, ALL, false, NO_EVENT, 0),
+    (None, NONE, false, NO_EVENT, 0),
     (BYTE, ALL, true, SECOND, 1),
     (None, ALL, false, SECOND, 1),
-    (None, ALL, false, SECOND, 1),
+    (None, NONE, false, SECOND, 1),
     (None, [false, false, true, false], false, SECOND, 1),
     (BYTE, ALL, false, SECOND, 1),
     (TABLE, ALL, false, SECOND, 1),
-    (None, ALL, false, SECOND, 1),
+    (None, NONE, false, SECOND, 1),
     (None, [true, false, true, false], false, SECOND, 1),
     (None, NONE, false, SECOND, 1),
     (None, NONE, false, NO_COLLECTION, 1),

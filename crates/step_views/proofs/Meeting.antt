@@ -1,15 +1,16 @@
 -- What a translator meets, and what a step then reads and leaves.
-use Rattle.std.proofs.Common.{◌≡◌, ℕ, Bool, true, false, cond, List, [], ◌∷◌, Option, Some, None, Result, Ok, Err, refl, sym, ap, subst, ◌∙◌}
-use Rattle.std.specs.Prelude.{not, ◌&&◌, ◌||◌, is_ok, slice_get}
+use Rattle.std.proofs.Common.{◌≡◌, ℕ, Bool, true, false, cond, List, [], ◌∷◌, Option, Some, None, Result, Ok, Err, refl, sym, ap, subst, ◌∙◌, inl, inr}
+use Rattle.std.specs.Prelude.{not, ◌&&◌, ◌||◌, ◌⊎◌, is_ok, slice_get}
 use Rattle.std.proofs.lemmas.Bool.{both_ways}
 use Rattle.std.proofs.lemmas.Option.{same_Some}
 use Rattle.gits_regs.specs.Registers.{Registers, queue_place}
+use Rattle.its_command.specs.Commands.{op_of}
 use Rattle.its_command.specs.declared.command.Command.{Command}
 use Rattle.its_command.specs.declared.command.Op.{Op}
 use Rattle.its_types.specs.Maps.{Maps}
 use Rattle.its_types.specs.declared.machine.Part.{Part}
 use Rattle.its_types.specs.declared.machine.Part.TheVariants.{Maps as MapsOf, Mem}
-use Rattle.its_plain.specs.Answer.{step_left, next_bytes, left, command_reply}
+use Rattle.its_plain.specs.Answer.{step_left, next_bytes, left, command_reply, command_left, went_on}
 use Rattle.its_plain.specs.Commands.{ran}
 use Rattle.its_plain.specs.Parts.{footprint, needed, needed_by, needed_next, conf, pend, IsIn}
 use Rattle.std.specs.Option.{option_map}
@@ -26,8 +27,9 @@ use Rattle.owned_parts.specs.RedistSets.{is_in}
 use Rattle.owned_parts.specs.declared.in_place.TranslatorRef.{TranslatorRef}
 use Rattle.owned_parts.specs.declared.parts.Parts.{Parts}
 use Rattle.owned_machine.specs.Whole.{IsMachine}
-use Rattle.owned_machine.proofs.Stepped.{still_left}
+use Rattle.owned_machine.proofs.Stepped.{still_left, met_is, step_is}
 use Rattle.plain_footprint.proofs.OtherParts.{other_parts}
+use Rattle.step_views.specs.Concern.{IsConcerned}
 use Rattle.step_views.specs.Counts.{adds_event, met_adds, maps_new, is_ran}
 use Rattle.step_views.specs.Lent.{IsNumber}
 use Rattle.step_views.specs.Pairs.{all_told}
@@ -99,6 +101,17 @@ module _ (p : Parts) (its : ℕ) (none : slice_get (state_of_parts p).translator
   pub adds_idle : false ≡ adds_event (state_of_parts p) its
   adds_idle = sym (still_adds (state_of_parts p) its Idle (none_idle (state_of_parts p) its none))
 
+-- a refused command leaves all redistributors
+pub refused_left : (u : Plain) (i : ℕ) (r : Result Plain Reason) → is_ok r ≡ false → (v : ℕ)
+    → slice_get (went_on i (command_left u r)).redistributors v ≡ slice_get u.redistributors v
+refused_left u i (Ok w) e v = absurd cc
+refused_left u i (Err reason) e v = refl
+
+-- what is in one of two sets
+pub either : (a b : Bool) → (a || b) ≡ true → (a ≡ true) ⊎ (b ≡ true)
+either true b e = inl refl
+either false b e = inr e
+
 pub neither : (a b : Bool) → (a || b) ≡ false → (a ≡ false) × (b ≡ false)
 neither true b e = absurd cc
 neither false b e = (refl, e)
@@ -166,3 +179,23 @@ module _ (p : Parts) (t : TranslatorRef) (m : IsMachine p) (i : ℕ) (at : IsNum
       is_part q here =
           (parts u i refl (sym same_maps) q).0
           (subst (λ (ps : List Part). IsIn q (MapsOf i ∷ Mem ∷ ps)) (met_needs u i c (met_here c met)) here)
+
+  -- a command that is refused concerns nobody
+  pub stays_refused : (c : Command) (v : ℕ) → MeetsCommand t.regs.now p.memory c → is_ok (ran u i c) ≡ false
+      → slice_get (step_left u i).redistributors v ≡ slice_get u.redistributors v
+  stays_refused c v met no =
+      ap (λ (w : Plain). slice_get w.redistributors v) (step_is u i c (met_here c met)) ∙ refused_left u i (ran u i c) no v
+
+  -- one that runs concerns those of whom a part is needed
+  pub met_concerns : (c : Command) (n : Needed) (v : ℕ) → MeetsCommand t.regs.now p.memory c → ArePartsOfStep p.layout.shape t.maps.now.maps c n
+      → is_ok (ran u i c) ≡ true → (is_in n.confs v ≡ true) ⊎ (is_in n.pends v ≡ true) → IsConcerned u i v
+  unfolding footprint
+  met_concerns c n v met parts yes named = record {
+    ran = sym (ap is_ran (met_is u i c (met_here c met))) ∙ ran_reply (op_of c) (ran u i c) (command_reply (op_of c) (ran u i c)) refl ∙ yes;
+    part = elim named [ inl conf_in ↦ inl (is_needed (conf v) conf_in) | inr pend_in ↦ inr (is_needed (pend v) pend_in) ];
+  }
+    where
+      is_needed : (q : Part) → IsPartOf i n q → IsIn q (footprint u (call.Step i))
+      is_needed q part =
+          subst (λ (ps : List Part). IsIn q (MapsOf i ∷ Mem ∷ ps)) (sym (met_needs u i c (met_here c met)))
+          ((parts u i refl (sym same_maps) q).1 part)

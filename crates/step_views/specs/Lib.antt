@@ -3,6 +3,7 @@ pub mod Lent
 pub mod Reads
 pub mod Destinations
 pub mod Counts
+pub mod Concern
 pub mod Laws
 pub mod Firsts
 pub mod ConfigReads

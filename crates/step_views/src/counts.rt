@@ -56,8 +56,8 @@ fn adds(parts: &Parts, translator: TranslatorRef<'_>) -> bool
     }
 }
 
-// The command isn't refused.
-fn runs(parts: &Parts, translator: TranslatorRef<'_>, command: &Command) -> bool
+/// Whether the command that a translator has met isn't refused.
+pub fn runs(parts: &Parts, translator: TranslatorRef<'_>, command: &Command) -> bool
     requires whole { IsMachine parts.now }
     requires there { IsTranslatorOf parts.now translator }
     ensures { (i : ℕ) → IsNumber parts.now translator.entry i

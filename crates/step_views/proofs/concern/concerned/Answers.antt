@@ -8,13 +8,19 @@ concerned_in-requires-clause-there c = (
   lent_number c.args.parts.now c.in_place.result c.args.its c.translator.result c.in_place.ensures.state c.translator.ensures c.in-Some.translator c.in-Some.is,
 )
 
-pub returns-in-Some : goal.returns-in-Some
-returns-in-Some c =
-    c.concerned_in.ensures c.args.its
+pub returns-in-Some-clause-others : goal.returns-in-Some-clause-others
+returns-in-Some-clause-others c =
+    c.concerned_in.ensures.others c.args.its
     (lent_number c.args.parts.now c.in_place.result c.args.its c.translator.result c.in_place.ensures.state c.translator.ensures c.in-Some.translator
     c.in-Some.is)
 
-pub returns-in-None : goal.returns-in-None
-returns-in-None c =
+pub returns-in-Some-clause-concerned : goal.returns-in-Some-clause-concerned
+returns-in-Some-clause-concerned c =
+    c.concerned_in.ensures.concerned c.args.its
+    (lent_number c.args.parts.now c.in_place.result c.args.its c.translator.result c.in_place.ensures.state c.translator.ensures c.in-Some.translator
+    c.in-Some.is)
+
+pub returns-in-None-clause-others : goal.returns-in-None-clause-others
+returns-in-None-clause-others c =
     let none = lent_none c.args.parts.now c.in_place.result c.args.its c.translator.result c.in_place.ensures.state c.translator.ensures c.in-None.is in
     λ vcpu out. stays_idle c.args.parts.now c.args.its none vcpu
