@@ -17,6 +17,10 @@ mod gicr_tests;
 #[cfg(test)]
 mod hostile_tests;
 #[cfg(test)]
+mod kvm_random_tests;
+#[cfg(test)]
+mod kvm_saved_tests;
+#[cfg(test)]
 mod kvm_tests;
 #[cfg(test)]
 mod many_tests;

@@ -107,3 +107,14 @@ pub fn tells<R: Threads + Wait + Sync>(
     let told = told(alloc, printed).ok()?;
     Some(ended == status && told.ends_with(end))
 }
+
+/// Whether the run of a script ends well, and prints this.
+pub fn prints<R: Threads + Wait + Sync>(
+    rt: &R,
+    alloc: Global,
+    script: &str,
+    report: &str,
+) -> Option<bool> {
+    let (ended, sink) = answer(rt, alloc, "its run", script.as_bytes())?;
+    Some(ended == Status::Ok && sink.bytes()? == report.as_bytes())
+}
