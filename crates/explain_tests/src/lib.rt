@@ -6,6 +6,8 @@ mod command_rows;
 #[cfg(test)]
 mod explained;
 #[cfg(test)]
+mod limit_rows;
+#[cfg(test)]
 mod machine_rows;
 #[cfg(test)]
 mod register_rows;

@@ -47,7 +47,7 @@ All of it has to lie in one window; windows are
             "bytes 0x80030000 a1",
             "word 0x801ffff9 0",
             "    word 0x801ffff9 0
-line 7: these bytes have to lie in one window; windows are
+line 7: these bytes, from 0x801ffff9 on, have to lie in one window; windows are
     0x80000000 to 0x801fffff
 ",
         ),

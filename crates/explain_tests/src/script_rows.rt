@@ -1,7 +1,5 @@
 //! Scripts that are refused: the word, its field, and what may stand there.
 use crate::explained::is_refused_so;
-use std::alloc::{AllocError, Global};
-use std::test::Fail;
 
 #[test]
 fn fields_are_explained(rt: HostRuntime) {
@@ -30,6 +28,16 @@ line 23: field 3 is missing; the line is `signal DEV EV`
             "    signal 7 2 1
                ^
 line 23: \"1\" is a field too many; the line is `signal DEV EV`
+",
+        ),
+        (
+            "mapd 7 4",
+            "mapd 18446744073709551616 4",
+            "    command 0x80020000 mapd 18446744073709551616 4 0x800c0000
+                            ^
+line 14, field 4: \"18446744073709551616\" is past 2^64 - 1
+Here stands a DeviceID, 0 to 4294967295.
+The line is `command ADDR mapd DEV BITS ITT`.
 ",
         ),
         (
@@ -99,7 +107,7 @@ The line is `write OFF SIZE VALUE`.
             "    processors 16
                ^
 line 1, field 2: \"16\" is out of range
-Here stands the count, 17 to 512.
+Here stands the count (for fewer see `vcpus N`), 17 to 512.
 The line is `processors N`.
 ",
         ),
@@ -159,6 +167,14 @@ line 3: line 2 has `shards` already, and it stands once
 ",
         ),
         (
+            "pending 1",
+            "pending 0x0",
+            "    pending 0x0 0x80050000
+    ^
+line 6: line 5 has `pending 0` already
+",
+        ),
+        (
             "shards 4\n",
             "processors 20\nshards 4\n",
             "    processors 20
@@ -172,7 +188,11 @@ line 2: line 1 says already how many processors there are
             "    phase
     ^
 line 8: the description isn't whole; these are missing:
-    `pending 2 ADDR`, `pending 3 ADDR`, `pending 4 ADDR`, `pending 5 ADDR`, `pending 6 ADDR`, `pending 7 ADDR`, `pending 8 ADDR`, `pending 9 ADDR`, `pending 10 ADDR`, `pending 11 ADDR`, `pending 12 ADDR`, `pending 13 ADDR`, `pending 14 ADDR`, `pending 15 ADDR`, `pending 16 ADDR`, `pending 17 ADDR`, and those of 494 more
+    `pending 2 ADDR`, `pending 3 ADDR`, `pending 4 ADDR`, `pending 5 ADDR`,
+    `pending 6 ADDR`, `pending 7 ADDR`, `pending 8 ADDR`, `pending 9 ADDR`,
+    `pending 10 ADDR`, `pending 11 ADDR`, `pending 12 ADDR`, `pending 13 ADDR`,
+    `pending 14 ADDR`, `pending 15 ADDR`, `pending 16 ADDR`, `pending 17 ADDR`,
+    and those of 494 more
 ",
         ),
         (
@@ -181,7 +201,8 @@ line 8: the description isn't whole; these are missing:
             "    phase
     ^
 line 6: the description isn't whole; these are missing:
-    `config ADDR`, `pending 0 ADDR`
+    `config ADDR`,
+    `pending 0 ADDR`
 ",
         ),
         (
@@ -312,80 +333,4 @@ line 21: `shards` describes the machine, and stands before the first `phase` or 
         let right = is_refused_so(rt.alloc(), old, new, explained);
         assert_eq!(rt; right, Some(true), "{new}");
     }
-}
-
-/// These lines so many times.
-fn repeated(alloc: Global, lines: &str, count: u32) -> Result<String, AllocError> {
-    let mut text = String::new(alloc);
-    for _ in 0..count {
-        text.push_str(lines)?;
-    }
-    Ok(text)
-}
-
-// Lines of which the last is one too many.
-#[test]
-fn limits_are_explained(rt: HostRuntime) -> Result<(), Fail> {
-    let alloc = rt.alloc();
-    for (old, lines, count, explained) in [
-        (
-            "bytes 0x80030000 a1\n",
-            "window 0x0 1\n",
-            16,
-            "    window 0x0 1
-    ^
-line 22: a machine has at most 16 windows
-",
-        ),
-        (
-            "bytes 0x80030000 a1\n",
-            "requester 0 0 0\n",
-            65,
-            "    requester 0 0 0
-    ^
-line 71: a description has at most 64 lines `requester`
-",
-        ),
-        (
-            "phase\nthread\nsignal 7 2\ntake 1\n",
-            "phase\nthread\n",
-            256,
-            "    phase
-    ^
-line 531: a leg has at most 256 phases
-",
-        ),
-        (
-            "thread\nsignal 7 2\ntake 1\n",
-            "thread\n",
-            65,
-            "    thread
-    ^
-line 86: a phase has at most 64 threads
-",
-        ),
-        (
-            "take 1\n",
-            "step\n",
-            65_536,
-            "    step
-    ^
-line 65559: a thread has at most 65536 calls
-",
-        ),
-        (
-            "end\n",
-            "migrate\n",
-            64,
-            "    migrate
-    ^
-line 88: a script has at most 64 legs, so at most 63 migrations
-",
-        ),
-    ] {
-        let new = repeated(alloc, lines, count)?;
-        let right = is_refused_so(alloc, old, new.as_str(), explained);
-        assert_eq!(rt; right, Some(true), "{lines}");
-    }
-    Ok(())
 }

@@ -83,9 +83,13 @@ const BASES: u64 = 18_446_744_073_709_486_080;
 
 const TABLES: u64 = 4_503_599_627_370_240;
 
-const FEW: Slot = Slot::Number("the count", 1, FEW_VCPUS);
+const FEW: Slot = Slot::Number("the count (for more see `processors N`)", 1, FEW_VCPUS);
 
-const MANY: Slot = Slot::Number("the count", FEW_VCPUS + 1, MOST_VCPUS as u64);
+const MANY: Slot = Slot::Number(
+    "the count (for fewer see `vcpus N`)",
+    FEW_VCPUS + 1,
+    MOST_VCPUS as u64,
+);
 
 const ADDRESS: Slot = Slot::Number("an address", 0, U64);
 

@@ -74,7 +74,11 @@ fn push_pending(out: &mut String, input: &[u8], desc: &Desc, vcpu: u16) -> Resul
 fn push_fill(out: &mut String, input: &[u8], script: &Script, fill: u64) -> Result<(), AllocError> {
     let line = line_number(script.fill_lines.as_slice(), fill);
     push_described(out, Some((line, line_at(input, line))))?;
-    push_windows(out, "these bytes have to lie in one window", &script.desc)
+    out.push_str("these bytes")?;
+    if let Some(bytes) = script.desc.fills.as_slice().get(fill as usize) {
+        write!(out, ", from 0x{:x} on,", bytes.addr.0)?;
+    }
+    push_windows(out, " have to lie in one window", &script.desc)
 }
 
 fn push_frames(out: &mut String, input: &[u8], desc: &Desc, its: u8) -> Result<(), AllocError> {

@@ -59,20 +59,31 @@ fn push_description(out: &mut String, context: &Context) -> Result<(), AllocErro
 /// How many of the missing lines of pending tables are written out.
 const MOST_WRITTEN: u64 = 16;
 
+/// How many of them stand in one line.
+const IN_A_LINE: u64 = 4;
+
+const IN_LINE: &str = ", ";
+
+const NEXT_LINE: &str = ",\n    ";
+
 fn push_pending(out: &mut String, context: &Context, first: &str) -> Result<(), AllocError> {
-    let mut between = first;
+    let mut between = if first.is_empty() { "" } else { NEXT_LINE };
     let mut missing = 0u64;
     for vcpu in 0..context.vcpus {
         if context.line_of_processor(b"pending", Some(vcpu)).is_none() {
             missing = missing.saturating_add(1);
             if missing <= MOST_WRITTEN {
                 write!(out, "{between}`pending {vcpu} ADDR`")?;
-                between = ", ";
+                between = if missing % IN_A_LINE == 0 {
+                    NEXT_LINE
+                } else {
+                    IN_LINE
+                };
             }
         }
     }
     match missing.saturating_sub(MOST_WRITTEN) {
         0 => Ok(()),
-        others => write!(out, ", and those of {others} more"),
+        others => write!(out, "{between}and those of {others} more"),
     }
 }

@@ -70,12 +70,11 @@ fn given_before(faulty: &Faulty, name: &str) -> Option<u64> {
 }
 
 fn push_again(out: &mut String, faulty: &Faulty, name: &str, line: u64) -> Result<(), AllocError> {
-    if name == "pending" || name == "rrestore" {
-        write!(out, "line {line} has `{name} ")?;
-        push_quoted(out, faulty.text(1))?;
-        out.push_str("` already\n")
-    } else {
-        writeln!(out, "line {line} has `{name}` already, and it stands once")
+    match number(faulty.text(1)) {
+        Some(vcpu) if name == "pending" || name == "rrestore" => {
+            writeln!(out, "line {line} has `{name} {vcpu}` already")
+        }
+        _ => writeln!(out, "line {line} has `{name}` already, and it stands once"),
     }
 }
 

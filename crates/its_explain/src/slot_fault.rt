@@ -134,18 +134,31 @@ fn push_wrong_number(
     slot: Slot,
     at: usize,
 ) -> Result<(), AllocError> {
-    let number = number(faulty.text(at));
+    let field = faulty.text(at);
+    let number = number(field);
+    let is_long = number.is_none() && is_decimal(field);
     match number {
         Some(number) => push_unfit(out, slot, number)?,
+        None if is_long => out.push_str(" is past 2^64 - 1")?,
         None => out.push_str(" is no number")?,
     }
     out.push_str("\nHere stands ")?;
     push_range(out, faulty, slot, at)?;
     out.push_str(".\n")?;
-    match number {
-        Some(_) => Ok(()),
-        None => out.push_str("Numbers are decimal digits, or 0x and 1 to 16 hexadecimal digits.\n"),
+    if number.is_some() || is_long {
+        return Ok(());
     }
+    out.push_str("Numbers are decimal digits, or 0x and 1 to 16 hexadecimal digits.\n")
+}
+
+/// Whether a field has decimal digits alone.
+fn is_decimal(field: &[u8]) -> bool {
+    for byte in field {
+        if !byte.is_ascii_digit() {
+            return false;
+        }
+    }
+    !field.is_empty()
 }
 
 /// Adds why a number isn't one that the slot takes.
