@@ -7,8 +7,8 @@ QEMU's trace comes through a pipe that holds one line: QEMU waits until each lin
 guest memory (RAMFILE, which QEMU shares) are read here while the write of the register that made QEMU look at them
 is still under way. Lines are added: `command ADDR HEX` with the 32 bytes of each command, `mem ADDR HEX` where the
 configuration table or the first level of the device table changed, `mem` too with the bits of a pending table's first
-64 LPIs and last ones as LPIs are turned on with it, and `pending V HEX` with the bytes of each pending table at the
-end, from that of LPI 8192 on.
+64 LPIs and last ones as LPIs are turned on with it, and `pending AFFINITY HEX` with the bytes of each pending table at
+the end, from that of LPI 8192 on.
 """
 import fcntl
 import mmap

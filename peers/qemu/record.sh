@@ -4,6 +4,7 @@
 # usage: record.sh linux DIR [ROUNDS]             downloads a Linux and records a boot of it: DIR/linux.log
 #        record.sh hibernate DIR [PROCESSORS]    the same, of a Linux that writes a hibernation image and goes on
 #        record.sh kexec DIR [PROCESSORS]        the same, of a Linux that starts another one by kexec
+#        record.sh many DIR PROCESSORS [ROUNDS]  the same, of a Linux with more than 41 processors
 #        record.sh guest DIR SEED BATCHES [OPTIONS OF generate.py]      the same with guest.c: DIR/guest.log
 #        record.sh differences DIR [CASE]         the same with differences.py
 #        record.sh play PROGRAM LOG [OPTIONS OF to_script.py]           plays a log as a script, and compares
@@ -14,6 +15,7 @@ events=(-d guest_errors -trace 'gicv3_its*' -trace gicv3_redist_write -trace gic
     -trace gicv3_redist_read -trace gicv3_icc_iar1_read)
 kernel=6.1.0-50-cloud-arm64
 processors=4
+time=(-accel tcg,thread=multi)
 
 # One QEMU at a time: DIR, the log's name, megabytes of memory, the other arguments.
 run_qemu() {
@@ -23,7 +25,7 @@ run_qemu() {
     truncate -s "${size}M" "$dir/ram"
     nice -n 15 python3 "$here/record.py" "$dir/$name.log" "$dir/ram" 0x40000000 -- \
         qemu-system-aarch64 -M virt,gic-version=3,its=on,memory-backend=ram -cpu cortex-a57 \
-        -smp "$processors" -m "${size}M" \
+        -smp "$processors" "${time[@]}" -m "${size}M" \
         -object "memory-backend-file,id=ram,size=${size}M,mem-path=$dir/ram,share=on" -nographic -nodefaults \
         "${events[@]}" "$@"
     rm -f "$dir/ram"
@@ -79,10 +81,17 @@ add_second() {
 }
 
 # A kernel's words, and a number of processors for a small machine with one disk, in place of four and all devices.
+# One with many has a disk with a queue for each processor, and two devices whose interrupts may be moved.
 record_linux() {
     local dir=$1 words=$2 devices
-    if [ -n "${3:-}" ]; then
-        processors=$3
+    [ -z "${3:-}" ] || processors=$3
+    if [ "$processors" -gt 16 ]; then
+        # One thread of QEMU's for all, and a clock that goes by what they do: else a slow host leaves them no time but
+        # for their timers.
+        time=(-accel tcg,thread=single -icount shift=0)
+        devices=(-device "virtio-blk-pci,drive=d0,num-queues=$processors"
+            -netdev "user,id=n0" -device "virtio-net-pci,netdev=n0,romfile=" -device virtio-rng-pci)
+    elif [ -n "${3:-}" ]; then
         devices=(-device "virtio-blk-pci,drive=d0,num-queues=1")
     else
         devices=(-device "virtio-blk-pci,drive=d0,num-queues=4"
@@ -130,9 +139,10 @@ case "${1:-}" in
 linux) mkdir -p "$2" && record_linux "$(realpath "$2")" "rounds=${3:-1}" ;;
 hibernate) mkdir -p "$2" && record_linux "$(realpath "$2")" "rounds=0 hibernate" "${3:-}" ;;
 kexec) mkdir -p "$2" && record_kexec "$(realpath "$2")" "${3:-}" ;;
+many) mkdir -p "$2" && record_linux "$(realpath "$2")" "rounds=${4:-1}" "$3" ;;
 guest) mkdir -p "$2" && python3 "$here/generate.py" "${@:3:2}" "$2/ops" "${@:5}" && record_guest "$(realpath "$2")" ;;
 differences) mkdir -p "$2" && python3 "$here/differences.py" "$2/ops" "${@:3}" && record_guest "$(realpath "$2")" ;;
 qemu_guest) run_qemu "$2" guest 256 -kernel "$2/guest.elf" -device "loader,file=$2/ops,addr=0x48000000,force-raw=on" ;;
 play) play "${@:2}" ;;
-*) sed -n '4,9s/^# //p' "$0" >&2 && exit 2 ;;
+*) sed -n '4,10s/^# //p' "$0" >&2 && exit 2 ;;
 esac

@@ -21,6 +21,7 @@ import trace
 UNIT = 0x10000
 MASK = 0xF8
 OF_PROCESSORS = ("take", "best", "claim", "rwrite", "rread")
+FEW = 16        # processors that the line `vcpus` may have
 
 
 def halves(low, offset, value):
@@ -115,7 +116,8 @@ def by_priority(calls):
 def description(calls, title, linux):
     lines = [f"# {line}" for line in title]
     cpus = 1 + max([int(t.split()[1]) for t, _, _ in calls if t.split()[0] in OF_PROCESSORS] + [0])
-    lines += [f"vcpus {cpus}", "shards 16", "ids 16 16", "gicr"] + ["linux"] * linux
+    word = "vcpus" if cpus <= FEW else "processors"
+    lines += [f"{word} {cpus}", "shards 16", "ids 16 16", "gicr"] + ["linux"] * linux
     lines += [f"window {base:#x} {end - base:#x}" for base, end in windows(stretches(calls))]
     return lines
 

@@ -10,6 +10,8 @@ FIELDS = re.compile(r"(?:0x([0-9a-f]+)|\b(\d+)\b)")
 LPI_REGISTERS = (0x00, 0x70, 0x74, 0x78, 0x7C, 0xA0, 0xA4, 0xB0, 0xB4, 0xC0)
 # lines of gicv3_its_* that tell of a look-up and not of a call
 LOOKUP = ("dte", "ite", "cte", "vte")
+# as many processors as `virt` counts by the lowest byte of an affinity
+CLUSTER = 16
 
 
 def numbers(text):
@@ -21,6 +23,11 @@ def after(line, word):
     """The number after a word of a line."""
     found = re.search(word + r" (?:0x([0-9a-f]+)|(\d+))", line)
     return int(found[1], 16) if found[1] else int(found[2])
+
+
+def processor(affinity):
+    """A processor's number. QEMU's trace has its affinity, but for the target of a collection."""
+    return (affinity >> 8) * CLUSTER + (affinity & 0xFF)
 
 
 class Reader:
@@ -64,7 +71,8 @@ class Reader:
         self.calls.append((f"read {offset:#x} {size}", f"value {value:#x}", ""))
 
     def redist(self, line, write):
-        cpu, offset, value, size = (after(line, w) for w in ("redistributor", "offset", "data", "size"))
+        affinity, offset, value, size = (after(line, w) for w in ("redistributor", "offset", "data", "size"))
+        cpu = processor(affinity)
         if offset == 0 and write:
             self.lpis[cpu] = value & 1
         if offset in LPI_REGISTERS and write:
@@ -112,7 +120,7 @@ class Reader:
         elif event == "pending":
             self.close()
             cpu, data = line.split()[1:3]
-            self.pending[int(cpu)] = bytes.fromhex(data)
+            self.pending[processor(int(cpu))] = bytes.fromhex(data)
         elif event in ("gicv3_redist_write", "gicv3_redist_badwrite", "gicv3_redist_read"):
             self.close()
             self.redist(line, event.endswith("write"))
@@ -123,7 +131,7 @@ class Reader:
             self.remark(line)
 
     def take(self, line):
-        cpu, intid = after(line, "cpu"), after(line, "value")
+        cpu, intid = processor(after(line, "cpu")), after(line, "value")
         if intid >= 8192:
             self.calls.append((f"take {cpu}", f"lpi {intid}", ""))
         elif self.lpis_alone and intid == 1023:
