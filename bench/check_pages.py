@@ -67,32 +67,56 @@ def rows(path, after):
     text = path.read_text(encoding="utf-8").split(f"\n## {after}\n", 1)[1]
     for line in re.split(r"\n## ", text, maxsplit=1)[0].splitlines():
         cells = [cell.strip() for cell in line.strip().strip("|").split("|")]
-        if line.startswith("|") and len(cells) >= 3 and not set(cells[0]) <= set("- "):
+        if line.startswith("|") and len(cells) >= 3 and not set(line) <= set("|- "):
             yield cells
 
 
-def is_declared(name, code):
-    """Whether a function, a type or a method of this name stands in the code."""
-    last = name.rpartition("::")[2]
-    return re.search(rf"\b(fn|struct|enum|trait|type|const)\s+{re.escape(last)}\b", code)
+def clauses(crate):
+    """The functions and methods of a crate's src/, each with the names of its clauses."""
+    found = {}
+    start = r'^\s*(?=(?:pub )?(?:const |unsafe |extern "C" )*fn )'
+    for part in re.split(start, sources(crate, "src"), flags=re.M):
+        name = re.match(r'(?:pub )?(?:const |unsafe |extern "C" )*fn (\w+)', part)
+        if name:
+            found.setdefault(name.group(1), set()).update(re.findall(r"\bensures\*?\s+(\w+)\s*\{", part))
+    return found
+
+
+def types(crate):
+    return set(re.findall(r"\b(?:struct|enum|trait|type|const)\s+(\w+)", sources(crate, "src")))
+
+
+def groups(cell):
+    """What a cell names, in order: names before a bracket, and those in it."""
+    before = []
+    for outside, inside in re.findall(r"([^()]*)(?:\(([^)]*)\))?", cell):
+        named = re.findall(r"`([A-Za-z][A-Za-z_:]*)`", outside)
+        before = named or before
+        # `x` of `f`: a clause of a function that is named beside it
+        of = re.search(r"; of (.*)", inside)
+        yield named, before, re.findall(r"`([a-z_]+)`", inside[: of.start()] if of else inside)
 
 
 def promised(page, heading):
     """The functions and clauses that a table of promises names, each in its crate."""
     crate = None
     for cells in rows(page, heading):
-        crate = cells[0] if (CRATES / cells[0]).is_dir() else crate
+        crate = cells[0] if cells[0] and (CRATES / cells[0]).is_dir() else crate
         if crate is None or cells[1].startswith("("):
             continue
-        code = sources(crate, "src")
-        outside = re.sub(r"\([^)]*\)", "", cells[1])
-        for name in re.findall(r"`([A-Za-z][A-Za-z_:]*)`", outside):
-            if not is_declared(name, code):
-                yield page, f"{crate}: no {name} in its src/"
-        for group in re.findall(r"\(([^)]*)\)", cells[1]):
-            for name in re.findall(r"`([a-z_]+)`", group):
-                if not re.search(rf"\b(ensures|ghost)\*?\s+{name}\b", code):
-                    yield page, f"{crate}: no clause {name} in its src/"
+        functions, kinds = clauses(crate), types(crate)
+        for named, before, inside in groups(cells[1]):
+            for name in named:
+                if name.rpartition("::")[2] not in kinds | functions.keys():
+                    yield page, f"{crate}: no {name} in its src/"
+            owners = [name.rpartition("::")[2] for name in before]
+            if any(owner in kinds for owner in owners):
+                known = functions.keys() | set().union(*functions.values())
+            else:
+                known = set().union(*(functions.get(owner, set()) for owner in owners))
+            for name in inside:
+                if name not in known:
+                    yield page, f"{crate}: {', '.join(owners)} has no clause {name}"
 
 
 def promises():
@@ -111,19 +135,82 @@ def crates():
     return [line.split(":")[0].split()[0] for line in lines if line and not line.startswith("#")]
 
 
+def stands_on():
+    """For each crate the repository's own crates that it stands on."""
+    lines = (TOP / "crates.txt").read_text(encoding="utf-8").splitlines()
+    pairs = [line.split(":") for line in lines if ":" in line and not line.startswith("#")]
+    own = set(crates())
+    return {a.split()[0]: set(b.split()) & own for a, b in pairs}
+
+
 def architecture():
     page = TOP / "docs/ARCHITECTURE.md"
     text = page.read_text(encoding="utf-8")
     for crate in crates():
         if not re.search(rf"\b{crate}\b", text):
             yield page, f"says nothing of {crate}"
-    for cells in rows(page, "Where each definition stands"):
-        for part in cells[0].split("; "):
-            names, _, files = part.partition(":")
-            owners = [name for name in names.split(", ") if (CRATES / name).is_dir()]
-            for file in re.findall(r"\b[A-Z]\w+", files):
-                if owners and not any((CRATES / it / f"specs/{file}.antt").exists() for it in owners):
-                    yield page, f"{names}: no specs/{file}.antt"
+    yield from definitions(page, text.split("\n## Where each definition stands\n", 1)[1])
+    yield from layers(page, text.split("\n## Layers\n", 1)[1])
+
+
+def definitions(page, text):
+    """The tables of definitions name each file of specs/, and no other."""
+    named = {}
+    for line in text.splitlines():
+        cell = line.strip("|").split("|")[0]
+        owners = []
+        for part in cell.split(";"):
+            names, _, files = part.rpartition(":")
+            owners = [it.strip() for it in names.split(",")] if names else owners
+            for owner in owners:
+                named.setdefault(owner, set()).update(re.findall(r"\b[A-Z]\w+", files))
+    for crate in crates():
+        there = {path.stem for path in (CRATES / crate).glob("specs/*.antt")} - {"Lib"}
+        for file in sorted(there - named.get(crate, set())):
+            yield page, f"names no {crate}: {file}"
+        for file in sorted(named.get(crate, set()) - there):
+            yield page, f"{crate}: no specs/{file}.antt"
+
+
+def drawn(text):
+    """The boxes of the first picture with what is in them, its arrows, and its texts."""
+    boxes, arrows, texts, box = {}, set(), {}, None
+    for line in re.search(r"```mermaid\n(.*?)```", text, re.S).group(1).splitlines():
+        line = line.strip()
+        if opened := re.match(r"subgraph (\w+)", line):
+            box = opened.group(1)
+            boxes[box] = set()
+        elif line == "end":
+            box = None
+        elif not line.startswith("flowchart"):
+            named = re.findall(r"(?:^|-->)\s*(\w+)(?:\[\"([^\"]*)\"\])?", line)
+            texts.update({name: said for name, said in named if said})
+            boxes.get(box, set()).update(name for name, _ in named)
+            arrows.update((a, b) for (a, _), (b, _) in zip(named, named[1:]))
+    return boxes, arrows, texts
+
+
+def layers(page, text):
+    """An arrow of the picture of layers stands for what crates.txt says, and each line there is drawn."""
+    boxes, arrows, texts = drawn(text)
+    boxes["ports"] = set(re.findall(r"\w+_\w+", texts["ports"]))
+    # what is named outside its box, by an arrow from another one, stands in the one with its text
+    home = {name: box for box, names in reversed(boxes.items()) for name in names}
+    stands = stands_on()
+    arrow_of = {}
+    for a, b in arrows:
+        arrow_of.setdefault(a, set()).add(b)
+        if not any(stands.get(x, set()) & boxes.get(b, {b}) for x in boxes.get(a, {a})):
+            yield page, f"draws an arrow from {a} to {b}, which crates.txt doesn't have"
+    for crate in sorted(set(stands) - {"its_bench"}):
+        seen, todo = set(), [crate]
+        while todo:
+            name = todo.pop()
+            near = arrow_of.get(name, set()) | boxes.get(name, set()) | {home.get(name, name)}
+            todo += near - seen
+            seen |= near
+        for below in sorted(stands[crate] - seen):
+            yield page, f"draws no way from {crate} to {below}"
 
 
 def files():
