@@ -11,8 +11,9 @@
  * same memory. Every number may be anything: what is out of its range is answered. Where a call
  * doesn't answer ITS_DONE it changed nothing, but for the fault that it tells with ITS_FAULT.
  *
- * The numbers of an enum have the words of docs/FORMATS.md, which its_text tells. Fields have 32 or 64
- * bits, and no enum's type. Section numbers are those of Arm IHI 0069.
+ * The numbers of an enum have words, which its_text tells, but for those of its_route and its_list;
+ * where docs/FORMATS.md prints a word, it is that. Fields have 32 or 64 bits, and no enum's type.
+ * Section numbers are those of Arm IHI 0069.
  * examples/monitor/check_header.py holds this file to crates/its_c/src.
  *
  * SPDX-License-Identifier: MIT OR Apache-2.0
