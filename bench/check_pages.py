@@ -3,10 +3,12 @@
 
     python3 bench/check_pages.py
 
-Links and their anchors, the files that pages name, the functions and clauses of docs/PROMISES.md,
-the specs files of docs/ARCHITECTURE.md, that both pages have every crate, the counts of
-docs/TESTING.md, and that a figure of README.md's first table stands on another page too. It prints
-a line for each thing that is wrong, and ends with status 1 if there is any.
+Links and their anchors; files, functions and definitions that pages name with their crate; the
+functions and clauses of docs/PROMISES.md; the picture of layers and the specs files of
+docs/ARCHITECTURE.md; that both pages have every crate; the files that a new command costs
+(CONTRIBUTING.md); the counts of docs/TESTING.md; and that a figure of README.md's first table stands
+on another page too. It prints a line for each thing that is wrong, and ends with status 1 if there
+is any.
 """
 import pathlib
 import re
@@ -214,12 +216,33 @@ def layers(page, text):
 
 
 def files():
-    """Files that a page names in words."""
-    known = {path.name for path in TOP.rglob("*") if "out" not in path.parts}
+    """Files that a page names in words, and what it says stands in them."""
+    told = r"(?:\b([a-z]\w+), )?\b(specs|proofs|src)/([\w/]+\.(?:antt|rt))(?:, (?:by |field )*`(\w+)`)?"
     for page in pages():
-        for name in re.findall(r"\b(?:specs|proofs|src)/(\w+\.(?:antt|rt))", prose(page)):
-            if name not in known:
-                yield page, f"names {name}, which isn't there"
+        for crate, folder, file, name in re.findall(told, prose(page)):
+            owner = crate if (CRATES / crate / folder).is_dir() and crate else "*"
+            found = list(CRATES.glob(f"{owner}/{folder}/**/{file}"))
+            if not found:
+                yield page, f"names {folder}/{file}, which isn't there"
+            elif name and not any(has(path.read_text(encoding="utf-8"), name) for path in found):
+                yield page, f"says that {name} stands in {folder}/{file}"
+
+
+def has(code, name):
+    return re.search(rf"\b{re.escape(name)}\b", code)
+
+
+def owners():
+    """What a page says stands in a crate, as in "`commit` (its_turns)". History may name what went."""
+    told = r"((?:`[\w:]+`(?:, | and )?)+) \(([a-z]\w+)[,;)]"
+    for page in pages():
+        for names, crate in re.findall(told, prose(page)):
+            if page.name == "CHANGELOG.md" or not (CRATES / crate).is_dir():
+                continue
+            code = "".join(sources(crate, folder) for folder in ("src", "specs", "proofs"))
+            for name in re.findall(r"`([\w:]+)`", names):
+                if not has(code, name.rpartition("::")[2]):
+                    yield page, f"says that {name} stands in {crate}"
 
 
 def counts():
@@ -234,6 +257,37 @@ def counts():
         yield page, f"counts {said.groups()} crates, edits and tests, where there are {found}"
 
 
+def listed(cell):
+    """The files of a cell, each in the folder that was named last: `src/a.rt, b.rt, proofs/c/`."""
+    folder = ""
+    for word in cell.split(", "):
+        folder, slash, name = word.rpartition("/") if "/" in word else (folder, "/", word)
+        yield folder + slash + name
+
+
+def command_files():
+    """What CONTRIBUTING.md lists for a new command are the files that DISCARD stands in."""
+    page = TOP / "CONTRIBUTING.md"
+    named, crate = set(), None
+    for cells in rows(page, "What a new command costs"):
+        crate = cells[0] or crate
+        if (CRATES / crate).is_dir() and "where" not in cells[2]:
+            named |= {f"{crate}/{file}" for file in listed(cells[1])}
+    there = set()
+    for path in [*CRATES.rglob("*.rt"), *CRATES.rglob("*.antt")]:
+        if "discard" in path.read_text(encoding="utf-8").lower() and "out" not in path.parts:
+            there.add(str(path.relative_to(CRATES)))
+    for name in sorted(named):
+        if not any(file == name or name.endswith("/") and file.startswith(name) for file in there):
+            yield page, f"lists {name} for a command, where DISCARD doesn't stand"
+    for file in sorted(there):
+        if file not in named and not any(it.endswith("/") and file.startswith(it) for it in named):
+            yield page, f"doesn't list {file}, where DISCARD stands"
+    count = f"{len(there)} files of {len({file.split('/')[0] for file in there})} crates"
+    if count not in page.read_text(encoding="utf-8"):
+        yield page, f"doesn't say that DISCARD stands in {count}"
+
+
 def figures():
     """Figures of README's first table stand on another page, where they are explained."""
     readme = TOP / "README.md"
@@ -244,8 +298,11 @@ def figures():
             yield readme, f"no other page has the figure {figure}"
 
 
+CHECKS = (links, promises, architecture, files, owners, command_files, counts, figures)
+
+
 def main():
-    wrong = [it for check in (links, promises, architecture, files, counts, figures) for it in check()]
+    wrong = [it for check in CHECKS for it in check()]
     for page, what in wrong:
         print(f"{page.relative_to(TOP)}: {what}")
     return 1 if wrong else 0
