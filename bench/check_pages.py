@@ -6,10 +6,11 @@
 Links and their anchors; files, functions and definitions that pages name with their crate; the
 functions and clauses of docs/PROMISES.md; the picture of layers and the specs files of
 docs/ARCHITECTURE.md; that both pages have every crate; the files that a new command costs
-(CONTRIBUTING.md); the counts of docs/TESTING.md; and that a figure of README.md's first table stands
-on another page too. It prints a line for each thing that is wrong, and ends with status 1 if there
-is any.
+(CONTRIBUTING.md); the counts of docs/TESTING.md; the figures of docs/SPEED.md that files of bench/
+have; and that a figure of README.md's first table stands on another page too. It prints a line for
+each thing that is wrong, and ends with status 1 if there is any.
 """
+import csv
 import pathlib
 import re
 import sys
@@ -298,7 +299,62 @@ def figures():
             yield readme, f"no other page has the figure {figure}"
 
 
-CHECKS = (links, promises, architecture, files, owners, command_files, counts, figures)
+def table(name):
+    """The rows of a file of figures in bench/."""
+    with open(TOP / "bench" / name, encoding="utf-8") as file:
+        return list(csv.DictReader(file))
+
+
+UNITS = {"ns": 1.0, "µs": 1e3, "ms": 1e6}
+
+
+def agrees(said, nanoseconds):
+    """Whether a time as it is told, with its unit, is this one, rounded."""
+    number, _, unit = said.partition(" ")
+    places = len(number.partition(".")[2])
+    return unit in UNITS and f"{float(nanoseconds) / UNITS[unit]:.{places}f}" == number
+
+
+def ports(page, lines):
+    """The times of calls of the ports are those of bench/ports.csv."""
+    told = {row["name"]: row for row in table("ports.csv")}
+    for cells in lines:
+        row = told.get(cells[0].strip("`"))
+        if row is None or len(cells) != 5 or not cells[0].startswith("`"):
+            continue
+        for said, column in ((cells[1], "ns"), (cells[3], "peer_ns")):
+            if said and not agrees(said, row[column] or 0):
+                yield page, f"says {said} of {row['name']}, where bench/ports.csv has {row[column]} ns"
+
+
+def growth(page, lines, text):
+    """The times and the memory of `its run` are those of bench/figures.csv."""
+    kinds = {}
+    for row in table("figures.csv"):
+        kinds.setdefault(row["kind"], []).append(row)
+    of_calls = {f"{int(row['calls']):,}": row for row in sum(kinds.values(), [])}
+    for cells in lines:
+        row = of_calls.get(cells[1]) if len(cells) == 5 else None
+        if row and (cells[2], cells[3]) != (f"{row['seconds']} s", f"{row['mib']} MiB"):
+            yield page, f"says {cells[2]} and {cells[3]} of {cells[0]}, which bench/figures.csv doesn't"
+    for kind, rows_of in kinds.items():
+        seconds = [f"{row['seconds']} s" for row in rows_of]
+        forms = (" | ".join(seconds), ", ".join(seconds), f"{', '.join(seconds[:-1])} and {seconds[-1]}")
+        if kind.startswith(("map-", "events", "devices", "overlap")) and not any(it in text for it in forms):
+            yield page, f"doesn't tell {', '.join(seconds)} of {kind}, as bench/figures.csv does"
+
+
+def speed():
+    """Figures of docs/SPEED.md that a file of bench/ has."""
+    page = TOP / "docs/SPEED.md"
+    text = page.read_text(encoding="utf-8")
+    told = (line for line in text.splitlines() if line.startswith("|"))
+    lines = [[cell.strip() for cell in line.strip("|").split("|")] for line in told]
+    yield from ports(page, lines)
+    yield from growth(page, lines, text)
+
+
+CHECKS = (links, promises, architecture, files, owners, command_files, counts, figures, speed)
 
 
 def main():
