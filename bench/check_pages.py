@@ -65,12 +65,13 @@ def sources(crate, folder):
     return "\n".join(path.read_text(encoding="utf-8") for path in files if path.is_file())
 
 
-def rows(path, after):
-    """The cells of each row of the tables after a heading."""
+def rows(path, after, count=None):
+    """The cells of each row of the tables after a heading: of three and more, or of so many."""
     text = path.read_text(encoding="utf-8").split(f"\n## {after}\n", 1)[1]
     for line in re.split(r"\n## ", text, maxsplit=1)[0].splitlines():
         cells = [cell.strip() for cell in line.strip().strip("|").split("|")]
-        if line.startswith("|") and len(cells) >= 3 and not set(line) <= set("|- "):
+        fits = len(cells) == count if count else len(cells) >= 3
+        if line.startswith("|") and fits and not set(line) <= set("|- "):
             yield cells
 
 
@@ -122,8 +123,36 @@ def promised(page, heading):
                     yield page, f"{crate}: {', '.join(owners)} has no clause {name}"
 
 
+def told_of(page, crate, functions, names):
+    """The clauses that a row tells of functions of a crate; words with a capital are definitions."""
+    known = clauses(crate)
+    last = [name.rpartition("::")[2] for name in functions]
+    for name in last:
+        if name not in known:
+            yield page, f"{crate}: no {name} in its src/"
+    for name in names:
+        if name[0].islower() and not any(name in known.get(it, set()) for it in last):
+            yield page, f"{crate}: {', '.join(functions)} has no clause {name}"
+
+
+def steps_and_laws(page):
+    """The rows of what `its` rests on, of the laws of schedules, and of the shared machine."""
+    spans = r"`([A-Za-z][\w:]*)`"
+    for cells in rows(page, "The statuses of `its`"):
+        parts = re.findall(r"((?:`[\w:]+`(?:, )?)+) \((\w+)\)", cells[1])
+        if len(parts) == 1:
+            names, crate = parts[0]
+            yield from told_of(page, crate, re.findall(spans, names), re.findall(spans, cells[2]))
+    for cells in rows(page, "Every schedule"):
+        yield from told_of(page, "its_steps", re.findall(spans, cells[0]), re.findall(spans, cells[1]))
+    for cells in rows(page, "The machine that threads share", 2):
+        outside, inside = re.sub(r"\([^)]*\)", "", cells[0]), " ".join(re.findall(r"\(([^)]*)\)", cells[0]))
+        yield from told_of(page, "its_turns", re.findall(spans, outside), re.findall(spans, inside))
+
+
 def promises():
     page = TOP / "docs/PROMISES.md"
+    yield from steps_and_laws(page)
     yield from promised(page, "All contracts, crate by crate")
     yield from promised(page, "The machine that threads share")
     text = page.read_text(encoding="utf-8")
