@@ -18,11 +18,6 @@ import sys
 TOP = pathlib.Path(__file__).resolve().parent.parent
 CRATES = TOP / "crates"
 
-# Crates of which docs/PROMISES.md claims nothing, as it says.
-UNPROMISED = {"machine_tests", "unit_tests", "its_bench", "ports_together", "explain_tests",
-              "program_tests", "its_cli", "its_pair", "its_explain"}
-
-
 def pages():
     """Every page of the repository, in order."""
     found = [path for path in TOP.rglob("*.md") if "out" not in path.relative_to(TOP).parts]
@@ -157,7 +152,7 @@ def promises():
     yield from promised(page, "The machine that threads share")
     text = page.read_text(encoding="utf-8")
     for crate in crates():
-        if crate not in UNPROMISED and not re.search(rf"\b{crate}\b", text):
+        if not re.search(rf"\b{crate}\b", text):
             yield page, f"says nothing of {crate}"
 
 
@@ -318,6 +313,15 @@ def command_files():
         yield page, f"doesn't say that DISCARD stands in {count}"
 
 
+def examples():
+    """Each example stands in the list of examples, and each variation in the tutorial's."""
+    for folder, page in (("examples", "examples/README.md"), ("examples/variations", "docs/TUTORIAL.md")):
+        text = (TOP / page).read_text(encoding="utf-8")
+        for path in sorted((TOP / folder).glob("*.its")):
+            if not has(text, path.stem):
+                yield TOP / page, f"says nothing of {path.name}"
+
+
 def figures():
     """Figures of README's first table stand on another page, where they are explained."""
     readme = TOP / "README.md"
@@ -383,7 +387,7 @@ def speed():
     yield from growth(page, lines, text)
 
 
-CHECKS = (links, promises, architecture, files, owners, command_files, counts, figures, speed)
+CHECKS = (links, promises, architecture, files, owners, command_files, examples, counts, figures, speed)
 
 
 def main():
