@@ -10,18 +10,11 @@ docs/ARCHITECTURE.md; that both pages have every crate; the files that a new com
 have; and that a figure of README.md's first table stands on another page too. It prints a line for
 each thing that is wrong, and ends with status 1 if there is any.
 """
-import csv
-import pathlib
 import re
 import sys
 
-TOP = pathlib.Path(__file__).resolve().parent.parent
-CRATES = TOP / "crates"
-
-def pages():
-    """Every page of the repository, in order."""
-    found = [path for path in TOP.rglob("*.md") if "out" not in path.relative_to(TOP).parts]
-    return sorted(found)
+from page_figures import counts, figures, speed
+from page_tree import CRATES, TOP, crates, has, pages, prose, rows, sources
 
 
 def anchor(heading):
@@ -36,11 +29,6 @@ def anchors(path):
     return {anchor(line.lstrip("#")) for line in lines if line.startswith("#")}
 
 
-def prose(path):
-    """A page's text without its blocks of code."""
-    return re.sub(r"```.*?```", "", path.read_text(encoding="utf-8"), flags=re.S)
-
-
 def links():
     for page in pages():
         for target in re.findall(r"\]\(([^)\s]+)\)", prose(page)):
@@ -52,22 +40,6 @@ def links():
                 yield page, f"link to {target}, which isn't there"
             elif fragment and path.suffix == ".md" and fragment not in anchors(path):
                 yield page, f"link to {target}, a heading that isn't there"
-
-
-def sources(crate, folder):
-    """The text of all files of a crate's folder."""
-    files = sorted((CRATES / crate / folder).rglob("*.*"))
-    return "\n".join(path.read_text(encoding="utf-8") for path in files if path.is_file())
-
-
-def rows(path, after, count=None):
-    """The cells of each row of the tables after a heading: of three and more, or of so many."""
-    text = path.read_text(encoding="utf-8").split(f"\n## {after}\n", 1)[1]
-    for line in re.split(r"\n## ", text, maxsplit=1)[0].splitlines():
-        cells = [cell.strip() for cell in line.strip().strip("|").split("|")]
-        fits = len(cells) == count if count else len(cells) >= 3
-        if line.startswith("|") and fits and not set(line) <= set("|- "):
-            yield cells
 
 
 def clauses(crate):
@@ -154,12 +126,6 @@ def promises():
     for crate in crates():
         if not re.search(rf"\b{crate}\b", text):
             yield page, f"says nothing of {crate}"
-
-
-def crates():
-    """The crates of crates.txt, in order."""
-    lines = (TOP / "crates.txt").read_text(encoding="utf-8").splitlines()
-    return [line.split(":")[0].split()[0] for line in lines if line and not line.startswith("#")]
 
 
 def stands_on():
@@ -253,10 +219,6 @@ def files():
                 yield page, f"says that {name} stands in {folder}/{file}"
 
 
-def has(code, name):
-    return re.search(rf"\b{re.escape(name)}\b", code)
-
-
 def owners():
     """What a page says stands in a crate, as in "`commit` (its_turns)". History may name what went."""
     told = r"((?:`[\w:]+`(?:, | and )?)+) \(([a-z]\w+)[,;)]"
@@ -268,18 +230,6 @@ def owners():
             for name in re.findall(r"`([\w:]+)`", names):
                 if not has(code, name.rpartition("::")[2]):
                     yield page, f"says that {name} stands in {crate}"
-
-
-def counts():
-    page = TOP / "docs/TESTING.md"
-    said = re.search(r"has (\d+) crates, (\d+) edits and (\d+) tests", page.read_text(encoding="utf-8"))
-    edits = len(list(CRATES.glob("*/must-fail/*.edit")))
-    tests = sum(path.read_text(encoding="utf-8").count("#[test]") for path in CRATES.rglob("src/**/*.rt"))
-    found = (len(crates()), edits, tests)
-    if not said:
-        yield page, "has no count of crates, edits and tests"
-    elif tuple(map(int, said.groups())) != found:
-        yield page, f"counts {said.groups()} crates, edits and tests, where there are {found}"
 
 
 def listed(cell):
@@ -320,71 +270,6 @@ def examples():
         for path in sorted((TOP / folder).glob("*.its")):
             if not has(text, path.stem):
                 yield TOP / page, f"says nothing of {path.name}"
-
-
-def figures():
-    """Figures of README's first table stand on another page, where they are explained."""
-    readme = TOP / "README.md"
-    others = "\n".join(path.read_text(encoding="utf-8") for path in pages() if path != readme)
-    lines = [line for line in readme.read_text(encoding="utf-8").splitlines() if line.startswith("| Linux")]
-    for figure in sorted({it for line in lines for it in re.findall(r"\b\d[\d,]*\d\b", line)}):
-        if figure not in others:
-            yield readme, f"no other page has the figure {figure}"
-
-
-def table(name):
-    """The rows of a file of figures in bench/."""
-    with open(TOP / "bench" / name, encoding="utf-8") as file:
-        return list(csv.DictReader(file))
-
-
-UNITS = {"ns": 1.0, "µs": 1e3, "ms": 1e6}
-
-
-def agrees(said, nanoseconds):
-    """Whether a time as it is told, with its unit, is this one, rounded."""
-    number, _, unit = said.partition(" ")
-    places = len(number.partition(".")[2])
-    return unit in UNITS and f"{float(nanoseconds) / UNITS[unit]:.{places}f}" == number
-
-
-def ports(page, lines):
-    """The times of calls of the ports are those of bench/ports.csv."""
-    told = {row["name"]: row for row in table("ports.csv")}
-    for cells in lines:
-        row = told.get(cells[0].strip("`"))
-        if row is None or len(cells) != 5 or not cells[0].startswith("`"):
-            continue
-        for said, column in ((cells[1], "ns"), (cells[3], "peer_ns")):
-            if said and not agrees(said, row[column] or 0):
-                yield page, f"says {said} of {row['name']}, where bench/ports.csv has {row[column]} ns"
-
-
-def growth(page, lines, text):
-    """The times and the memory of `its run` are those of bench/figures.csv."""
-    kinds = {}
-    for row in table("figures.csv"):
-        kinds.setdefault(row["kind"], []).append(row)
-    of_calls = {f"{int(row['calls']):,}": row for row in sum(kinds.values(), [])}
-    for cells in lines:
-        row = of_calls.get(cells[1]) if len(cells) == 5 else None
-        if row and (cells[2], cells[3]) != (f"{row['seconds']} s", f"{row['mib']} MiB"):
-            yield page, f"says {cells[2]} and {cells[3]} of {cells[0]}, which bench/figures.csv doesn't"
-    for kind, rows_of in kinds.items():
-        seconds = [f"{row['seconds']} s" for row in rows_of]
-        forms = (" | ".join(seconds), ", ".join(seconds), f"{', '.join(seconds[:-1])} and {seconds[-1]}")
-        if kind.startswith(("map-", "events", "devices", "overlap")) and not any(it in text for it in forms):
-            yield page, f"doesn't tell {', '.join(seconds)} of {kind}, as bench/figures.csv does"
-
-
-def speed():
-    """Figures of docs/SPEED.md that a file of bench/ has."""
-    page = TOP / "docs/SPEED.md"
-    text = page.read_text(encoding="utf-8")
-    told = (line for line in text.splitlines() if line.startswith("|"))
-    lines = [[cell.strip() for cell in line.strip("|").split("|")] for line in told]
-    yield from ports(page, lines)
-    yield from growth(page, lines, text)
 
 
 CHECKS = (links, promises, architecture, files, owners, command_files, examples, counts, figures, speed)
