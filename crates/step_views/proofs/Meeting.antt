@@ -183,15 +183,15 @@ module _ (p : Parts) (t : TranslatorRef) (m : IsMachine p) (i : ℕ) (at : IsNum
   -- a command that is refused concerns nobody
   pub stays_refused : (c : Command) (v : ℕ) → MeetsCommand t.regs.now p.memory c → is_ok (ran u i c) ≡ false
       → slice_get (step_left u i).redistributors v ≡ slice_get u.redistributors v
-  stays_refused c v met no =
-      ap (λ (w : Plain). slice_get w.redistributors v) (step_is u i c (met_here c met)) ∙ refused_left u i (ran u i c) no v
+  stays_refused c v met refused =
+      ap (λ (w : Plain). slice_get w.redistributors v) (step_is u i c (met_here c met)) ∙ refused_left u i (ran u i c) refused v
 
   -- one that runs concerns those of whom a part is needed
   pub met_concerns : (c : Command) (n : Needed) (v : ℕ) → MeetsCommand t.regs.now p.memory c → ArePartsOfStep p.layout.shape t.maps.now.maps c n
       → is_ok (ran u i c) ≡ true → (is_in n.confs v ≡ true) ⊎ (is_in n.pends v ≡ true) → IsConcerned u i v
   unfolding footprint
-  met_concerns c n v met parts yes named = record {
-    ran = sym (ap is_ran (met_is u i c (met_here c met))) ∙ ran_reply (op_of c) (ran u i c) (command_reply (op_of c) (ran u i c)) refl ∙ yes;
+  met_concerns c n v met parts runs named = record {
+    ran = sym (ap is_ran (met_is u i c (met_here c met))) ∙ ran_reply (op_of c) (ran u i c) (command_reply (op_of c) (ran u i c)) refl ∙ runs;
     part = elim named [ inl conf_in ↦ inl (is_needed (conf v) conf_in) | inr pend_in ↦ inr (is_needed (pend v) pend_in) ];
   }
     where
