@@ -1,6 +1,5 @@
 #!/usr/bin/env python3
-"""Writes a script of at most N bytes to standard output, with comments, blank lines and lines of every call but `save`,
-`rread` and `rwrite`.
+"""Writes a script of at most N bytes to standard output, of many kinds of lines.
 
 The first phase maps one device with 16 events. Each phase after it has one thread, which goes through the same mix of
 lines again and again: signals, acknowledgements, reads and writes of registers and of memory, commands with a step each,
