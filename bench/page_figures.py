@@ -20,7 +20,8 @@ def figures():
     """Figures of README's first table stand on another page, where they are explained."""
     readme = TOP / "README.md"
     others = "\n".join(path.read_text(encoding="utf-8") for path in pages() if path != readme)
-    lines = [line for line in readme.read_text(encoding="utf-8").splitlines() if line.startswith("| Linux")]
+    first = readme.read_text(encoding="utf-8").split("\n| What was played", 1)[1].split("\n\n", 1)[0]
+    lines = [line for line in first.splitlines() if line.startswith("| ")]
     for figure in sorted({it for line in lines for it in re.findall(r"\b\d[\d,]*\d\b", line)}):
         if figure not in others:
             yield readme, f"no other page has the figure {figure}"
