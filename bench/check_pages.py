@@ -6,9 +6,10 @@
 Links and their anchors; files, functions and definitions that pages name with their crate; the
 functions and clauses of docs/PROMISES.md; the picture of layers and the specs files of
 docs/ARCHITECTURE.md; that both pages have every crate; the files that a new command costs
-(CONTRIBUTING.md); the counts of docs/TESTING.md; the figures of docs/SPEED.md that files of bench/
-have; and that a figure of README.md's first table stands on another page too. It prints a line for
-each thing that is wrong, and ends with status 1 if there is any.
+(CONTRIBUTING.md); examples, the words of scripts, version and kit; the counts of docs/TESTING.md;
+the figures of docs/SPEED.md that files of bench/ have; and that a figure of README.md's first table
+stands on another page too. It prints a line for each thing that is wrong, and ends with status 1 if
+there is any.
 """
 import re
 import sys
@@ -272,7 +273,39 @@ def examples():
                 yield TOP / page, f"says nothing of {path.name}"
 
 
-CHECKS = (links, promises, architecture, files, owners, command_files, examples, counts, figures, speed)
+def words():
+    """Each word of scripts and of reports stands in docs/FORMATS.md."""
+    page = TOP / "docs/FORMATS.md"
+    told = set(re.findall(r"[\w-]+", " ".join(re.findall(r"`([^`]+)`", page.read_text(encoding="utf-8")))))
+    for place in ("event_script/src/words.rt", "its_history/src/replies.rt"):
+        code = (CRATES / place).read_text(encoding="utf-8")
+        for word in re.findall(r'=> (?:out\.push_str\()?"([a-z][a-z0-9-]*[a-z0-9])"', code):
+            if word not in told:
+                yield page, f"doesn't have the word {word} of {place}"
+
+
+def versions():
+    """Version and kit are the same in the program, the changes and the pages; so is the header's."""
+    help_text = (CRATES / "its_words/specs/Help.antt").read_text(encoding="utf-8")
+    version = re.search(r"its ([\d.]+) \(Bacciledru\)", help_text).group(1)
+    kit = re.search(r"rattle-kit-\S+ logic \w+", help_text).group(0)
+    changes = TOP / "CHANGELOG.md"
+    if re.search(r"^## (.*)$", changes.read_text(encoding="utf-8"), re.M).group(1) != version:
+        yield changes, f"doesn't begin with {version}, as its_words does"
+    for page in pages():
+        for other in re.findall(r"rattle-kit-\S+ logic \w+", page.read_text(encoding="utf-8")):
+            if other != kit:
+                yield page, f"names the kit {other}, where its_words has {kit}"
+    header = re.search(r"ITS_VERSION (\d+)", (TOP / "include/its.h").read_text(encoding="utf-8")).group(1)
+    library = TOP / "docs/LIBRARY.md"
+    if f"At {header} a machine has" not in library.read_text(encoding="utf-8"):
+        yield library, f"doesn't say what came with version {header} of the header"
+
+
+CHECKS = (
+    links, promises, architecture, files, owners, command_files,
+    examples, words, versions, counts, figures, speed,
+)
 
 
 def main():
