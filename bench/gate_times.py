@@ -4,7 +4,7 @@
 
 PID is that of `rt ci`. Each second the processor time of every process below it is read from /proc,
 and kept by crate and by what it does: the proof, the proof with tests, an edit with its base, or a
-compiler. Once the gate has ended, a line for each crate is printed, in seconds. What a process takes
+compiler. Once the gate has ended, or at Ctrl-C, a line for each crate is printed, in seconds. What a process takes
 after its last sample, and crates that were done before the sampling began, are missing.
 """
 import os
@@ -60,19 +60,27 @@ def what(pid):
     return named or pathlib.Path(folder).name, kind
 
 
-def main():
-    root = int(sys.argv[1])
+def sampled(root):
+    """The processor seconds of each crate by what they went into, until the gate ends or Ctrl-C."""
     works, times = {}, {}
-    while os.path.exists(f"/proc/{root}"):
-        for pid, start, spent in below(root, list(processes())):
-            if (pid, start) not in works or not works[pid, start][0]:
-                works[pid, start] = what(pid)
-            times[pid, start] = spent
-        time.sleep(1)
+    try:
+        while os.path.exists(f"/proc/{root}"):
+            for pid, start, spent in below(root, list(processes())):
+                if (pid, start) not in works or not works[pid, start][0]:
+                    works[pid, start] = what(pid)
+                times[pid, start] = spent
+            time.sleep(1)
+    except KeyboardInterrupt:
+        pass
     sums = {}
     for key, spent in times.items():
         crate, kind = works[key]
         sums.setdefault(crate, dict.fromkeys(KINDS, 0.0))[kind] += spent
+    return sums
+
+
+def main():
+    sums = sampled(int(sys.argv[1]))
     print("crate", *KINDS, sep=",")
     for crate in sorted(sums):
         print(crate, *(round(sums[crate][kind]) for kind in KINDS), sep=",")
