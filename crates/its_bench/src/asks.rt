@@ -1,15 +1,15 @@
 //! Calls of a machine that threads share, by their ports.
 ghost use Rattle.its_bench.specs.Ready.{IsReady};
 
-use cmd_engine::{step_at, write_at};
+use cmd_engine::{read_at, step_at, write_at};
 use device_port::{Now, signal_at, try_signal_at};
-use gicr_lpi::write_gicr;
+use gicr_lpi::{read_gicr, write_gicr};
 use guest_port::{copy, peek, poke};
 use its_migrate::save;
 use its_plain::{Bytes64, Call, Reply};
 use its_turns::{Machine, Pass};
-use its_types::{Addr, DeviceId, EventId, Open, Placed, Vcpu};
-use redist_ack::take;
+use its_types::{Addr, DeviceId, EventId, Intid, Open, Placed, Vcpu};
+use redist_ack::{best, claim, take};
 use std::alloc::Global;
 use std::sync::Wait;
 
@@ -22,6 +22,14 @@ pub enum Ask {
         ev: EventId,
     },
     Take(Vcpu),
+    Best {
+        vcpu: Vcpu,
+        mask: u8,
+    },
+    Claim {
+        vcpu: Vcpu,
+        intid: Intid,
+    },
     Poke {
         addr: Addr,
         bytes: Bytes64,
@@ -29,6 +37,16 @@ pub enum Ask {
     Peek {
         addr: Addr,
         count: u8,
+    },
+    Read {
+        its: u8,
+        off: u32,
+        size: u8,
+    },
+    ReadGicr {
+        vcpu: Vcpu,
+        off: u32,
+        size: u8,
     },
     Write {
         its: u8,
@@ -55,8 +73,12 @@ impl Ask {
         match *self {
             Ask::Signal { its, dev, ev } => Call::Signal { its, dev, ev },
             Ask::Take(vcpu) => Call::Take(vcpu),
+            Ask::Best { vcpu, mask } => Call::Best { vcpu, mask },
+            Ask::Claim { vcpu, intid } => Call::Claim { vcpu, intid },
             Ask::Poke { addr, bytes } => Call::Poke { addr, bytes },
             Ask::Peek { addr, count } => Call::Peek { addr, count },
+            Ask::Read { its, off, size } => Call::ReadReg { its, off, size },
+            Ask::ReadGicr { vcpu, off, size } => Call::ReadGicr { vcpu, off, size },
             Ask::Write {
                 its,
                 off,
@@ -109,8 +131,12 @@ pub fn make<R: Wait>(
     match *ask {
         Ask::Signal { its, dev, ev } => send(rt, machine, pass, its, dev, ev),
         Ask::Take(vcpu) => take_once(rt, machine, pass, vcpu),
+        Ask::Best { vcpu, mask } => best_once(rt, machine, pass, vcpu, mask),
+        Ask::Claim { vcpu, intid } => claim_once(rt, machine, pass, vcpu, intid),
         Ask::Poke { addr, bytes } => poke_once(rt, machine, pass, addr, &bytes),
         Ask::Peek { addr, count } => peek_once(rt, machine, pass, addr, count),
+        Ask::Read { its, off, size } => read_once(rt, machine, pass, its, off, size),
+        Ask::ReadGicr { vcpu, off, size } => read_gicr_once(rt, machine, pass, vcpu, off, size),
         Ask::Write {
             its,
             off,
@@ -179,6 +205,44 @@ fn take_once<R: Wait>(rt: &R, machine: &Machine, pass: &mut Pass, vcpu: Vcpu) ->
     }
 }
 
+fn best_once<R: Wait>(
+    rt: &R,
+    machine: &Machine,
+    pass: &mut Pass,
+    vcpu: Vcpu,
+    mask: u8,
+) -> Option<Made>
+    requires { IsReady machine.now pass.old }
+    ensures { IsReady machine.now pass.new }
+{
+    if vcpu.0 >= machine.vcpus() {
+        return None;
+    }
+    match best(rt, machine, pass, &Open, vcpu, mask) {
+        Ok(Placed { place, reply }) => placed(place, Reply::Ack(reply)),
+        Err(_) => None,
+    }
+}
+
+fn claim_once<R: Wait>(
+    rt: &R,
+    machine: &Machine,
+    pass: &mut Pass,
+    vcpu: Vcpu,
+    intid: Intid,
+) -> Option<Made>
+    requires { IsReady machine.now pass.old }
+    ensures { IsReady machine.now pass.new }
+{
+    if vcpu.0 >= machine.vcpus() {
+        return None;
+    }
+    match claim(rt, machine, pass, &Open, vcpu, intid) {
+        Ok(Placed { place, reply }) => placed(place, Reply::Ack(reply)),
+        Err(_) => None,
+    }
+}
+
 fn poke_once<R: Wait>(
     rt: &R,
     machine: &Machine,
@@ -207,6 +271,46 @@ fn peek_once<R: Wait>(
 {
     match peek(rt, machine, pass, &Open, addr, count) {
         Ok(Placed { place, reply }) => placed(place, reply),
+        Err(_) => None,
+    }
+}
+
+fn read_once<R: Wait>(
+    rt: &R,
+    machine: &Machine,
+    pass: &mut Pass,
+    its: u8,
+    off: u32,
+    size: u8,
+) -> Option<Made>
+    requires { IsReady machine.now pass.old }
+    ensures { IsReady machine.now pass.new }
+{
+    if its >= machine.translators() {
+        return None;
+    }
+    match read_at(rt, machine, pass, &Open, its, off, size) {
+        Ok(Placed { place, reply }) => placed(place, Reply::Value(reply)),
+        Err(_) => None,
+    }
+}
+
+fn read_gicr_once<R: Wait>(
+    rt: &R,
+    machine: &Machine,
+    pass: &mut Pass,
+    vcpu: Vcpu,
+    off: u32,
+    size: u8,
+) -> Option<Made>
+    requires { IsReady machine.now pass.old }
+    ensures { IsReady machine.now pass.new }
+{
+    if vcpu.0 >= machine.vcpus() {
+        return None;
+    }
+    match read_gicr(rt, machine, pass, &Open, vcpu, off, size) {
+        Ok(Placed { place, reply }) => placed(place, Reply::Value(reply)),
         Err(_) => None,
     }
 }

@@ -161,7 +161,7 @@ fn prepared<R: Wait>(
     requires { IsReady machine.now pass.old }
 {
     let (asks, queue) = map_devices(alloc, 0)?;
-    let Rounds { before, calls } = beside.rounds(alloc, queue)?;
+    let Rounds { before, calls, .. } = beside.rounds(alloc, queue)?;
     make_each(rt, alloc, machine, pass, asks.as_slice());
     make_each(rt, alloc, machine, pass, before.as_slice());
     Ok(calls)

@@ -18,6 +18,14 @@ const QUEUE_PLACES: u32 = 2048;
 // How often the translator is told in one round of the queue, as at most 2,047 commands wait.
 const QUARTERS: u32 = 4;
 
+// How many events of one device are mapped at once, by commands in half of the queue's places.
+const EVENTS: u32 = 1 << EVENT_BITS;
+
+const EVENT_BITS: u8 = 10;
+
+// The first of their LPIs.
+const FIRST_LPI: u32 = 9216;
+
 // How far a translator's queue and tables stand from those of the one before it.
 const APART: u64 = 0x18_0000;
 
@@ -89,11 +97,43 @@ impl Queue {
         first: &Command,
         second: &Command,
     ) -> Result<Rounds, AllocError> {
-        let mut before = Vec::new(alloc);
-        let mut calls = Vec::new(alloc);
-        self.fill(&mut before, first, second)?;
-        self.go_round(&mut calls)?;
-        Ok(Rounds { before, calls })
+        let mut rounds = Rounds::none(alloc);
+        self.fill(&mut rounds.before, first, second)?;
+        self.go_round(&mut rounds.calls)?;
+        Ok(rounds)
+    }
+
+    /// Has the translator unmap 1,024 events of a device over and over, and map them between.
+    pub fn rounds_of_discards(
+        mut self,
+        alloc: Global,
+        dev: DeviceId,
+        icid: u16,
+    ) -> Result<Rounds, AllocError> {
+        let mut rounds = Rounds::none(alloc);
+        self.write_events(&mut rounds.before, dev, icid)?;
+        for ev in 0..EVENTS {
+            let ev = EventId(ev);
+            self.write(&mut rounds.before, &Command::Discard { dev, ev })?;
+        }
+        self.go_on(&mut rounds.between, EVENTS)?;
+        self.go_on(&mut rounds.calls, EVENTS)?;
+        Ok(rounds)
+    }
+
+    // Has the translator map a device, and writes the commands that map its events.
+    fn write_events(
+        &mut self,
+        asks: &mut Vec<Ask>,
+        dev: DeviceId,
+        icid: u16,
+    ) -> Result<(), AllocError> {
+        self.run(asks, &mapd_wide(dev, EVENT_BITS))?;
+        for ev in 0..EVENTS {
+            let intid = Intid(FIRST_LPI + ev);
+            self.write(asks, &mapti(dev, EventId(ev), intid, icid))?;
+        }
+        Ok(())
     }
 
     // Writes the commands into all places, by turns.
@@ -113,11 +153,17 @@ impl Queue {
     // Has the translator carry out what is in each place.
     fn go_round(&mut self, asks: &mut Vec<Ask>) -> Result<(), AllocError> {
         for _ in 0..QUARTERS {
-            self.place = (self.place % QUEUE_BYTES + QUEUE_BYTES / 4) % QUEUE_BYTES;
-            self.tell(asks)?;
-            for _ in 0..QUEUE_PLACES / QUARTERS {
-                asks.push(Ask::Step { its: self.its })?;
-            }
+            self.go_on(asks, QUEUE_PLACES / QUARTERS)?;
+        }
+        Ok(())
+    }
+
+    // Has the translator carry out what is in so many places.
+    fn go_on(&mut self, asks: &mut Vec<Ask>, places: u32) -> Result<(), AllocError> {
+        self.place = (self.place % QUEUE_BYTES + 32 * u64::from(places)) % QUEUE_BYTES;
+        self.tell(asks)?;
+        for _ in 0..places {
+            asks.push(Ask::Step { its: self.its })?;
         }
         Ok(())
     }
@@ -128,6 +174,8 @@ impl Queue {
 pub struct Rounds {
     /// What is called once before them.
     pub before: Vec<Ask>,
+    /// What is called each time before them, and isn't timed.
+    pub between: Vec<Ask>,
     pub calls: Vec<Ask>,
 }
 
@@ -136,6 +184,7 @@ impl Rounds {
     pub fn none(alloc: Global) -> Rounds {
         Rounds {
             before: Vec::new(alloc),
+            between: Vec::new(alloc),
             calls: Vec::new(alloc),
         }
     }

@@ -28,14 +28,33 @@ pub enum Many {
     Signal,
     /// Signals and acknowledgements, by turns.
     SignalTake,
+    /// Signals and acknowledgements of the LPI by its number, by turns.
+    SignalClaim,
+    /// With an LPI that is pending.
+    Best,
+    /// Reads of GICR_PROPBASER.
+    ReadPropbaser,
     /// Writes of GICR_CTLR that change nothing.
     WriteCtlr,
+    /// Reads of GITS_CREADR.
+    ReadCreadr,
+    /// Writes of GITS_CWRITER that change nothing.
+    WriteCwriter,
+    /// Steps.
+    Steps(Steps),
+}
+
+/// Commands that are taken over and over.
+#[derive(Clone, Copy)]
+pub enum Steps {
     Int,
     Clear,
     /// To one collection and back.
     Movi,
     /// DISCARD and MAPTI of the event, by turns.
     DiscardMapti,
+    /// Of events that are mapped each time before, which isn't timed.
+    Discard,
     Inv,
     /// Of an event that is mapped.
     Mapti,
@@ -44,22 +63,39 @@ pub enum Many {
 }
 
 /// All of them, with their names.
-pub const MANY: [(&str, Many); 10] = [
+pub const MANY: [(&str, Many); 16] = [
     ("signal", Many::Signal),
     ("signal-take", Many::SignalTake),
+    ("signal-claim", Many::SignalClaim),
+    ("best", Many::Best),
+    ("read-propbaser", Many::ReadPropbaser),
     ("write-ctlr", Many::WriteCtlr),
-    ("int", Many::Int),
-    ("clear", Many::Clear),
-    ("movi", Many::Movi),
-    ("discard-mapti", Many::DiscardMapti),
-    ("inv", Many::Inv),
-    ("mapti", Many::Mapti),
-    ("invall", Many::Invall),
+    ("read-creadr", Many::ReadCreadr),
+    ("write-cwriter", Many::WriteCwriter),
+    ("int", Many::Steps(Steps::Int)),
+    ("clear", Many::Steps(Steps::Clear)),
+    ("movi", Many::Steps(Steps::Movi)),
+    ("discard-mapti", Many::Steps(Steps::DiscardMapti)),
+    ("discard", Many::Steps(Steps::Discard)),
+    ("inv", Many::Steps(Steps::Inv)),
+    ("mapti", Many::Steps(Steps::Mapti)),
+    ("invall", Many::Steps(Steps::Invall)),
 ];
 
 const DEV: DeviceId = DeviceId(16);
 
 const EV: EventId = EventId(3);
+
+const SIGNAL: Ask = Ask::Signal {
+    its: 0,
+    dev: DEV,
+    ev: EV,
+};
+
+const INTID: Intid = Intid(8195);
+
+// A device whose events are unmapped.
+const WIDE: DeviceId = DeviceId(32);
 
 const HERE: Icid = Icid(0);
 
@@ -68,23 +104,66 @@ const THERE: Icid = Icid(1);
 impl Many {
     // The calls. The event's collection goes to this virtual processor.
     fn rounds(self, alloc: Global, queue: Queue, vcpu: Vcpu) -> Result<Rounds, AllocError> {
-        let (dev, ev) = (DEV, EV);
-        let signal = Ask::Signal { its: 0, dev, ev };
+        let intid = INTID;
         match self {
-            Many::Signal => Rounds::of(alloc, signal),
-            Many::SignalTake => Rounds::of_both(alloc, signal, Ask::Take(vcpu)),
+            Many::Signal => Rounds::of(alloc, SIGNAL),
+            Many::SignalTake => Rounds::of_both(alloc, SIGNAL, Ask::Take(vcpu)),
+            Many::SignalClaim => Rounds::of_both(alloc, SIGNAL, Ask::Claim { vcpu, intid }),
+            Many::Best => shown(alloc, vcpu),
+            Many::ReadPropbaser => Rounds::of(
+                alloc,
+                Ask::ReadGicr {
+                    vcpu,
+                    off: 0x70,
+                    size: 8,
+                },
+            ),
             Many::WriteCtlr => Rounds::of(alloc, turn(vcpu, true)),
-            Many::Int => queue.rounds(alloc, &Command::Int { dev, ev }),
-            Many::Clear => queue.rounds(alloc, &Command::Clear { dev, ev }),
-            Many::Movi => queue.rounds_of_both(alloc, &movi(THERE), &movi(HERE)),
-            Many::DiscardMapti => {
-                queue.rounds_of_both(alloc, &Command::Discard { dev, ev }, &mapping())
-            }
-            Many::Inv => queue.rounds(alloc, &Command::Inv { dev, ev }),
-            Many::Mapti => queue.rounds(alloc, &mapping()),
-            Many::Invall => queue.rounds(alloc, &Command::Invall { icid: HERE }),
+            Many::ReadCreadr => Rounds::of(
+                alloc,
+                Ask::Read {
+                    its: 0,
+                    off: 0x90,
+                    size: 8,
+                },
+            ),
+            Many::WriteCwriter => told(alloc, queue),
+            Many::Steps(steps) => steps.rounds(alloc, queue),
         }
     }
+}
+
+impl Steps {
+    // The steps, and how the queue is filled for them.
+    fn rounds(self, alloc: Global, queue: Queue) -> Result<Rounds, AllocError> {
+        let (dev, ev) = (DEV, EV);
+        match self {
+            Steps::Int => queue.rounds(alloc, &Command::Int { dev, ev }),
+            Steps::Clear => queue.rounds(alloc, &Command::Clear { dev, ev }),
+            Steps::Movi => queue.rounds_of_both(alloc, &movi(THERE), &movi(HERE)),
+            Steps::DiscardMapti => {
+                queue.rounds_of_both(alloc, &Command::Discard { dev, ev }, &mapping())
+            }
+            Steps::Discard => queue.rounds_of_discards(alloc, WIDE, HERE.0),
+            Steps::Inv => queue.rounds(alloc, &Command::Inv { dev, ev }),
+            Steps::Mapti => queue.rounds(alloc, &mapping()),
+            Steps::Invall => queue.rounds(alloc, &Command::Invall { icid: HERE }),
+        }
+    }
+}
+
+// Shows the LPI that comes first, with one that is pending.
+fn shown(alloc: Global, vcpu: Vcpu) -> Result<Rounds, AllocError> {
+    let mut rounds = Rounds::of(alloc, Ask::Best { vcpu, mask: 0xff })?;
+    rounds.before.push(SIGNAL)?;
+    Ok(rounds)
+}
+
+// Tells the translator how far the queue is written, which it knows.
+fn told(alloc: Global, queue: Queue) -> Result<Rounds, AllocError> {
+    let mut rounds = Rounds::none(alloc);
+    queue.tell(&mut rounds.calls)?;
+    Ok(rounds)
 }
 
 fn movi(icid: Icid) -> Command {
@@ -96,7 +175,7 @@ fn movi(icid: Icid) -> Command {
 }
 
 fn mapping() -> Command {
-    mapti(DEV, EV, Intid(8195), HERE.0)
+    mapti(DEV, EV, INTID, HERE.0)
 }
 
 // Turns LPIs on at each virtual processor, and maps the event. It goes to this one.
@@ -161,14 +240,52 @@ fn lap_of_pass<R: Clock + Wait>(
 {
     let last = Vcpu(vcpus.saturating_sub(1));
     let (asks, queue) = prepared(alloc, vcpus, last)?;
-    let Rounds { before, calls } = many.rounds(alloc, queue, last)?;
+    let rounds = many.rounds(alloc, queue, last)?;
     make_each(rt, alloc, machine, pass, asks.as_slice());
-    make_each(rt, alloc, machine, pass, before.as_slice());
-    let each = calls.len().max(1) as u64;
-    let rounds = u64::from(count).div_ceil(each);
+    make_each(rt, alloc, machine, pass, rounds.before.as_slice());
+    lap_of_rounds(rt, alloc, machine, pass, &rounds, count)
+}
+
+// At least so many calls.
+fn lap_of_rounds<R: Clock + Wait>(
+    rt: &R,
+    alloc: Global,
+    machine: &Machine,
+    pass: &mut Pass,
+    rounds: &Rounds,
+    count: u32,
+) -> io::Result<Lap>
+    requires { IsReady machine.now pass.old }
+{
+    let each = rounds.calls.len().max(1) as u64;
+    let often = u64::from(count).div_ceil(each);
+    if !rounds.between.is_empty() {
+        return lap_of_each(rt, alloc, machine, pass, rounds, often);
+    }
     let since = Instant::now(rt)?;
-    make_rounds(rt, alloc, machine, pass, calls.as_slice(), rounds);
-    Lap::since(rt, &since, rounds.wrapping_mul(each))
+    make_rounds(rt, alloc, machine, pass, rounds.calls.as_slice(), often);
+    Lap::since(rt, &since, often.wrapping_mul(each))
+}
+
+// Of each round, without what is called between them.
+fn lap_of_each<R: Clock + Wait>(
+    rt: &R,
+    alloc: Global,
+    machine: &Machine,
+    pass: &mut Pass,
+    rounds: &Rounds,
+    often: u64,
+) -> io::Result<Lap>
+    requires { IsReady machine.now pass.old }
+{
+    let mut lap = Lap::new();
+    for _n in 0..often {
+        make_each(rt, alloc, machine, pass, rounds.between.as_slice());
+        let since = Instant::now(rt)?;
+        make_each(rt, alloc, machine, pass, rounds.calls.as_slice());
+        lap.add(rt, &since, rounds.calls.len() as u64)?;
+    }
+    Ok(lap)
 }
 
 // Makes calls in order, so often.
