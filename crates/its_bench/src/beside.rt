@@ -13,7 +13,7 @@ use crate::signals::{FIRST, SECOND, map_devices};
 use device_port::signal;
 use its_command::Command;
 use its_turns::{Machine, Pass, Root};
-use its_types::{EventId, Icid, Open, Vcpu};
+use its_types::{DeviceId, EventId, Icid, Open, Vcpu};
 use std::alloc::{AllocError, Global};
 use std::sync::Wait;
 use std::sync::atomic::{AtomicBool, Ordering};
@@ -34,18 +34,24 @@ pub enum Beside {
     Take,
     /// Saves.
     Save,
+    /// Saves with 1,024 events more, of processor 1.
+    SaveMany,
 }
 
 /// All of them, with their names.
-pub const BESIDE: [(&str, Beside); 5] = [
+pub const BESIDE: [(&str, Beside); 6] = [
     ("beside-nothing", Beside::Nothing),
     ("beside-inv", Beside::Inv),
     ("beside-invall", Beside::Invall),
     ("beside-take", Beside::Take),
     ("beside-save", Beside::Save),
+    ("beside-save-1024", Beside::SaveMany),
 ];
 
 const EVENTS: u32 = 16;
+
+// A device with many events.
+const WIDE: DeviceId = DeviceId(80);
 
 impl Beside {
     // What the other thread calls.
@@ -59,6 +65,7 @@ impl Beside {
             Beside::Invall => queue.rounds(alloc, &Command::Invall { icid: Icid(1) }),
             Beside::Take => Rounds::of(alloc, Ask::Take(Vcpu(1))),
             Beside::Save => Rounds::of(alloc, Ask::Save),
+            Beside::SaveMany => queue.rounds_of_saves(alloc, WIDE, 1),
         }
     }
 }

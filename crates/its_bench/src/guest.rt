@@ -103,6 +103,19 @@ impl Queue {
         Ok(rounds)
     }
 
+    /// Has the translator map 1,024 events of a device, and saves over and over.
+    pub fn rounds_of_saves(
+        mut self,
+        alloc: Global,
+        dev: DeviceId,
+        icid: u16,
+    ) -> Result<Rounds, AllocError> {
+        let mut rounds = Rounds::of(alloc, Ask::Save)?;
+        self.write_events(&mut rounds.before, dev, icid)?;
+        self.go_on(&mut rounds.before, EVENTS)?;
+        Ok(rounds)
+    }
+
     /// Has the translator unmap 1,024 events of a device over and over, and map them between.
     pub fn rounds_of_discards(
         mut self,
