@@ -12,14 +12,35 @@ use std::sync::atomic::{AtomicU64, Ordering};
 use std::thread;
 use std::thread::Threads;
 
+/// What is counted of calls.
+#[derive(Clone, Copy)]
+pub struct Counts {
+    /// How many are signals that the cache alone translated.
+    pub hits: u64,
+    /// How many weren't made at first, as there was no memory, and were made again.
+    pub again: u64,
+}
+
+impl Counts {
+    /// Of no calls.
+    pub const NONE: Counts = Counts { hits: 0, again: 0 };
+
+    /// Of both together.
+    pub fn with(self, other: Counts) -> Counts {
+        Counts {
+            hits: self.hits.wrapping_add(other.hits),
+            again: self.again.wrapping_add(other.again),
+        }
+    }
+}
+
 /// A thread's pass and calls, and the replies to those that were made.
 #[derive(Drop)]
 pub struct Actor {
     pub pass: Pass,
     pub asks: Vec<Ask>,
     pub done: Vec<Placed<Reply>>,
-    /// How many signals the cache alone translated.
-    pub hits: u64,
+    pub counts: Counts,
 }
 
 impl Actor {
@@ -34,7 +55,7 @@ impl Actor {
             pass,
             asks,
             done,
-            hits: 0,
+            counts: Counts::NONE,
         })
     }
 }
@@ -51,7 +72,27 @@ pub fn make_each<R: Wait>(rt: &R, alloc: Global, machine: &Machine, pass: &mut P
     }
 }
 
-/// The same, which keeps the replies and answers how many calls were hits.
+// Makes a call, and makes it again where it isn't made.
+fn make_or_again<R: Wait>(
+    rt: &R,
+    alloc: Global,
+    machine: &Machine,
+    pass: &mut Pass,
+    ask: &Ask,
+    counts: &mut Counts,
+) -> Option<Made>
+    requires { IsReady machine.now pass.old }
+    ensures { IsReady machine.now pass.new }
+{
+    let made = make(rt, alloc, machine, pass, ask);
+    if made.is_some() {
+        return made;
+    }
+    counts.again = counts.again.wrapping_add(1);
+    make(rt, alloc, machine, pass, ask)
+}
+
+/// Makes calls in order, up to the first that isn't made when it is made again. Keeps the replies.
 fn make_all<R: Wait>(
     rt: &R,
     alloc: Global,
@@ -59,21 +100,22 @@ fn make_all<R: Wait>(
     pass: &mut Pass,
     asks: &[Ask],
     done: &mut Vec<Placed<Reply>>,
-) -> u64
+) -> Counts
     requires { IsReady machine.now pass.old }
     ensures { IsReady machine.now pass.new }
 {
-    let mut hits = 0u64;
+    let mut counts = Counts::NONE;
     for each in asks {
-        let Some(Made { placed, hit }) = make(rt, alloc, machine, pass, each) else {
-            return hits;
+        let Some(Made { placed, hit }) = make_or_again(rt, alloc, machine, pass, each, &mut counts)
+        else {
+            return counts;
         };
-        hits = hits.wrapping_add(u64::from(hit));
+        counts.hits = counts.hits.wrapping_add(u64::from(hit));
         if done.push(placed).is_err() {
-            return hits;
+            return counts;
         }
     }
-    hits
+    counts
 }
 
 /// Makes an actor's calls.
@@ -81,7 +123,7 @@ pub fn act<R: Wait>(rt: &R, alloc: Global, machine: &Machine, actor: &mut Actor)
     requires { IsReady machine.now actor.old.pass }
     ensures { IsReady machine.now actor.new.pass }
 {
-    actor.hits = make_all(
+    actor.counts = make_all(
         rt,
         alloc,
         machine,

@@ -25,6 +25,7 @@ mod measure;
 mod memory;
 mod play;
 mod replay;
+mod saving;
 mod shared;
 mod signals;
 mod stress;
@@ -34,6 +35,7 @@ mod trial;
 mod trials;
 mod turning;
 
+use actors::Counts;
 use beside::{BESIDE, time_beside};
 use its_types::MOST_VCPUS;
 use latencies::Latencies;
@@ -47,6 +49,7 @@ use std::thread::Threads;
 use std::time::Clock;
 use std::{env, io};
 use times::{ALL, time};
+use trial::Checked;
 use trials::{TRIALS, Trial, run_trial};
 
 // Of each kind, where no count is given.
@@ -147,6 +150,15 @@ fn print_counts<R: Clock + Print + AllocGlobal + Threads + Wait + Sync>(rt: &R) 
     Ok(())
 }
 
+fn print_checked<R: Print>(rt: &R, name: &str, checked: &Checked) -> io::Result<()> {
+    let (places, Counts { hits, again }) = (checked.places, checked.counts);
+    if again == 0 {
+        println!(rt; "{name}: checked {places} places, hits {hits}")
+    } else {
+        println!(rt; "{name}: checked {places} places, hits {hits}, made again {again}")
+    }
+}
+
 // A trial of real threads, each reply of which is checked.
 fn check_trial<R: Print + AllocGlobal + Threads + Wait + Sync>(
     rt: &R,
@@ -160,13 +172,12 @@ fn check_trial<R: Print + AllocGlobal + Threads + Wait + Sync>(
         println!(rt; "{name}: another reply at place {place}")?;
         return Ok(WRONG);
     }
-    if kind.signals() && checked.hits == 0 {
+    if kind.signals() && checked.counts.hits == 0 {
         println!(rt; "{name}: no hits")?;
         return Ok(WRONG);
     }
     if counts {
-        let (places, hits) = (checked.places, checked.hits);
-        println!(rt; "{name}: checked {places} places, hits {hits}")?;
+        print_checked(rt, name, &checked)?;
     } else {
         println!(rt; "{name}: every reply as replayed")?;
     }

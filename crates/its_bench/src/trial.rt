@@ -5,7 +5,7 @@ ghost use Rattle.std.specs.List.{AllByRecursion};
 ghost use Rattle.its_turns.specs.Machines.{view};
 ghost use Rattle.its_bench.specs.Ready.{IsReady, IsRoot};
 
-use crate::actors::{Actor, act, act_all};
+use crate::actors::{Actor, Counts, act, act_all};
 use crate::asks::Ask;
 use crate::replay::replay;
 use crate::shared::{Kind, desc, shared, split};
@@ -30,8 +30,8 @@ pub struct Calls {
 pub struct Checked {
     /// How many calls were made, each with a place of its own.
     pub places: usize,
-    /// How many signals of the threads beside each other the cache alone translated.
-    pub hits: u64,
+    /// What is counted of the threads beside each other.
+    pub counts: Counts,
     /// The first place whose reply isn't that of the machine of one caller.
     pub wrong: Option<usize>,
 }
@@ -71,41 +71,41 @@ fn actors(
 }
 
 // Has the first actor make its calls, then all but the second beside each other, and last the
-// second. Answers how many signals of the others the cache alone translated.
+// second. Answers what is counted of the others.
 fn act_in_turn<R: Threads + Wait + Sync>(
     rt: &R,
     alloc: Global,
     machine: &Machine,
     actors: &mut [Actor],
-) -> u64
+) -> Counts
     requires { AllByRecursion (λ a. IsReady machine.now a.pass) actors.old }
 {
     let Some((before, others)) = actors.split_first_mut() else {
-        return 0;
+        return Counts::NONE;
     };
     let Some((after, beside)) = others.split_first_mut() else {
-        return 0;
+        return Counts::NONE;
     };
     act(rt, alloc, machine, before);
     act_all(rt, alloc, machine, beside);
     act(rt, alloc, machine, after);
-    hits(beside)
+    counts_of(beside)
 }
 
-fn hits(actors: &[Actor]) -> u64 {
-    let mut hits = 0u64;
+fn counts_of(actors: &[Actor]) -> Counts {
+    let mut counts = Counts::NONE;
     for actor in actors {
-        hits = hits.wrapping_add(actor.hits);
+        counts = counts.with(actor.counts);
     }
-    hits
+    counts
 }
 
 // What threads did.
 #[derive(Drop)]
 struct Done {
     actors: Vec<Actor>,
-    // How many signals of the threads beside each other the cache alone translated.
-    hits: u64,
+    // Of the threads beside each other.
+    counts: Counts,
 }
 
 fn make_calls<R: Threads + Wait + Sync>(
@@ -120,8 +120,8 @@ fn make_calls<R: Threads + Wait + Sync>(
     requires few { length lists.items ≤ 66 }
 {
     let mut actors = actors(alloc, machine, root, lists)?;
-    let hits = act_in_turn(rt, alloc, machine, &mut actors);
-    Ok(Done { actors, hits })
+    let counts = act_in_turn(rt, alloc, machine, &mut actors);
+    Ok(Done { actors, counts })
 }
 
 // Makes the calls on a new machine.
@@ -143,7 +143,7 @@ fn compared(alloc: Global, kind: Kind, done: &Done) -> Result<Checked, AllocErro
     let (places, wrong) = replay(alloc, &desc, &done.actors)?;
     Ok(Checked {
         places,
-        hits: done.hits,
+        counts: done.counts,
         wrong,
     })
 }

@@ -1,5 +1,6 @@
 //! The trials, by name.
 use crate::copying::stress_copying;
+use crate::saving::stress_saving;
 use crate::stress::{stress, stress_two};
 use crate::trial::Checked;
 use crate::turning::stress_turning;
@@ -18,6 +19,8 @@ pub enum Trial {
     Turning,
     /// Two write guest memory, and one copies it.
     Copying,
+    /// Two signal, and one saves.
+    Saving,
 }
 
 impl Trial {
@@ -28,11 +31,12 @@ impl Trial {
 }
 
 /// All of them, with their names.
-pub const TRIALS: [(&str, Trial); 4] = [
+pub const TRIALS: [(&str, Trial); 5] = [
     ("stress", Trial::Maps),
     ("stress-2-translators", Trial::Translators),
     ("stress-turning", Trial::Turning),
     ("stress-copying", Trial::Copying),
+    ("stress-saving", Trial::Saving),
 ];
 
 /// Runs one, with so many signals or writes.
@@ -47,5 +51,6 @@ pub fn run_trial<R: Threads + Wait + Sync>(
         Trial::Translators => stress_two(rt, alloc, count),
         Trial::Turning => stress_turning(rt, alloc, count),
         Trial::Copying => stress_copying(rt, alloc, count),
+        Trial::Saving => stress_saving(rt, alloc, count),
     }
 }
