@@ -1,7 +1,8 @@
 /*
  * Refuses each allocation in turn. The call that meets the refusal answers that memory ran out, and
  * the same call made again succeeds; or it does without (a list that is made asks again for less).
- * Nothing is lost of the memory that was taken.
+ * A save or a migration that meets it leaves the state, guest memory and the pages that are held as
+ * they were, and each block of the host's memory. Nothing is lost of the memory that was taken.
  */
 #include "its.h"
 
@@ -15,8 +16,16 @@ struct block {
     void *at;
 };
 
+/* What can be seen of a machine, and how many blocks of the host's memory it has. */
+struct seen {
+    uint64_t registers[6], event[3], pages, bytes, waiting[2];
+    uint32_t pending[2][4];
+    long held;
+};
+
 static char refused;
-static long asked, refused_one, held, refusals;
+static long asked, refused_one, held, refusals, saves_refused;
+static bool looking;
 
 static struct block block_at(void *at)
 {
@@ -26,7 +35,7 @@ static struct block block_at(void *at)
 
 static bool refuses(void)
 {
-    return ++asked == refused_one;
+    return !looking && ++asked == refused_one;
 }
 
 struct block rattle_alloc(size_t size, size_t align)
@@ -63,6 +72,76 @@ void rattle_dealloc(void *at)
         }                                            \
     } while (0)
 
+static void must_be_done(uint32_t answer)
+{
+    if (answer != ITS_DONE) {
+        printf("a look at the machine answers %u\n", answer);
+        exit(1);
+    }
+}
+
+/* A sum of the addresses and the bytes of all pages that are held. */
+static void look_at_pages(struct its_handle *its, struct seen *seen)
+{
+    static uint8_t bytes[0x10000];
+    struct its_stretch_out page = {0, 0};
+    uint64_t i;
+    for (;;) {
+        must_be_done(its_next_page(its, page.address + page.length, &page));
+        if (page.length == 0)
+            return;
+        must_be_done(its_read_memory(its, page.address, bytes, page.length));
+        seen->pages++;
+        seen->bytes = seen->bytes * 0x100000001b3 ^ page.address;
+        for (i = 0; i < page.length; i++)
+            seen->bytes = seen->bytes * 0x100000001b3 ^ bytes[i];
+    }
+}
+
+static struct seen look(struct its_handle *its)
+{
+    static const uint32_t offsets[6] = {0x0, 0x80, 0x88, 0x90, 0x100, 0x108};
+    struct its_event_out event;
+    struct seen seen;
+    uint32_t i;
+    memset(&seen, 0, sizeof seen);
+    looking = true;
+    seen.held = held;
+    for (i = 0; i < 6; i++)
+        must_be_done(its_read_register(its, offsets[i], i != 0 ? 8 : 4, &seen.registers[i]));
+    must_be_done(its_event(its, 7, 2, &event));
+    seen.event[0] = event.cause;
+    seen.event[1] = event.intid;
+    seen.event[2] = event.vcpu;
+    for (i = 0; i < 2; i++)
+        must_be_done(its_pending(its, i, seen.pending[i], 4, &seen.waiting[i]));
+    look_at_pages(its, &seen);
+    looking = false;
+    return seen;
+}
+
+/* Makes such a call, and the same again where memory ran out and all is as it was. */
+static void save(const char *name, uint32_t call(struct its_handle *, struct its_save_fault_out *), struct its_handle *its)
+{
+    struct its_save_fault_out fault;
+    struct seen before = look(its), after;
+    uint32_t answer = call(its, &fault);
+    if (answer == ITS_NO_MEMORY) {
+        after = look(its);
+        if (memcmp(&before, &after, sizeof before) != 0) {
+            printf("%s without memory, at allocation %ld: something has changed\n", name, refused_one);
+            exit(1);
+        }
+        refusals++;
+        saves_refused++;
+        answer = call(its, &fault);
+    }
+    if (answer != ITS_DONE) {
+        printf("%s: %u\n", name, answer);
+        exit(1);
+    }
+}
+
 static void play(void)
 {
     static const struct its_window_in window = {0x80000000, 0x200000};
@@ -75,7 +154,6 @@ static void play(void)
     static const struct its_requesters_in requesters[1] = {{1, 1, 7}};
     struct its_handle its = ITS_NO_MACHINE;
     struct its_make_fault_out unmade;
-    struct its_save_fault_out unsaved;
     struct its_stretch_out tables_written[8];
     struct its_dma_out written;
     struct its_step_out step;
@@ -101,11 +179,11 @@ static void play(void)
     CALL(its_signal(&its, 7, 2, &signal));
     CALL(its_pending(&its, 1, list, 4, &waiting));
     CALL(its_dma(&its, 1, 0x801f0000, &byte, 1, &written));
-    CALL(its_save(&its, &unsaved));
+    save("its_save", its_save, &its);
     CALL(its_written(&its, tables_written, 8, &count));
     if (count != 5)
         exit(1);
-    CALL(its_migrate(&its, &unsaved));
+    save("its_migrate", its_migrate, &its);
     CALL(its_take(&its, 1, &ack));
     if (signal.cause != 0 || waiting != 1 || ack.intid != 8192)
         exit(1);
@@ -125,6 +203,7 @@ int main(void)
             return 1;
         }
     }
-    printf("%ld allocations, each refused once: %ld calls were made again\n", all, refusals);
-    return refusals > 0 ? 0 : 1;
+    printf("%ld allocations, each refused once: %ld calls were made again, %ld of them saves that had changed nothing\n", all,
+           refusals, saves_refused);
+    return saves_refused > 0 ? 0 : 1;
 }

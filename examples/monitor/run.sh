@@ -80,6 +80,8 @@ if command -v "$compiler" >/dev/null; then
     fi
     build many many.c heap.c && $runner "$work/many"
     tell "512 processors" $?
+    build room room.c && $runner "$work/room"
+    tell "the memory of 512 processors, and of a save" $?
     build refusals refusals.c && $runner "$work/refusals"
     tell "each allocation refused in turn" $?
     if [ "${1:-}" = times ]; then

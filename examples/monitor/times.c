@@ -93,6 +93,26 @@ static void drive(struct its_handle *its)
     }
 }
 
+/* Saves of one event, while so many pages of 64 KiB are held beside those of the tables. */
+static void time_saves(const char *name, uint64_t pages)
+{
+    struct its_handle its = ITS_NO_MACHINE;
+    struct its_save_fault_out unsaved;
+    start(&its, (uint64_t)1 << 30);
+    slot = 0;
+    its_write_register(&its, 0x100, 8, 0x8107000080000200);
+    its_write_register(&its, 0x108, 8, 0x8407000080010200);
+    its_write_register(&its, 0x80, 8, 0x8000000000000000 | QUEUE);
+    its_write_register(&its, 0, 4, 1);
+    run(&its, 9, 0, 0x8000000000010000);
+    run(&its, (uint64_t)7 << 32 | 8, 0, 0x8000000000000000 | ITTS);
+    run(&its, (uint64_t)7 << 32 | 0xa, (uint64_t)8192 << 32, 0);
+    for (uint64_t page = 0; page < pages; page++)
+        its_write_memory(&its, RAM + 256 * MIB + 0x10000 * page, (const uint8_t *)"its", 3);
+    TIME(name, 100, made("its_save", its_save(&its, &unsaved)));
+    its_free(&its);
+}
+
 static void new_and_free(uint64_t length)
 {
     struct its_handle its = ITS_NO_MACHINE;
@@ -171,6 +191,8 @@ int main(void)
     TIME("its_written", COUNT / 100, its_written(&its, list, 18, &count); sum += count);
     TIME("its_migrate of 1,024 events", 20, its_migrate(&its, &unsaved));
     its_free(&its);
+    time_saves("its_save of one event, 64 KiB held beside", 1);
+    time_saves("its_save of one event, 256 MiB held beside", 4096);
     TIME("its_new of 1 MiB, and its_free", 100, new_and_free(MIB));
     TIME("its_new of 64 GiB, and its_free", 100, new_and_free((uint64_t)64 << 30));
     time_many("one table", 0);
