@@ -24,6 +24,9 @@ const LPIS: usize = 57_344;
 const MEMORY_BYTES: usize = 0x20_0000;
 const LARGE_BYTES: usize = 0x400_0000;
 const PAGE: usize = 4096;
+const HELD_PAGE: usize = 0x1_0000;
+// How many words of a table are made at once.
+const BLOCK: usize = 512;
 // Where words are written, how many, and how many pages are copied, each so far from the one before it.
 const WRITTEN: usize = 0x10_0000;
 const WORDS: usize = 8192;
@@ -533,8 +536,8 @@ fn takes(events: u32, count: u32) -> (u64, Duration) {
     (done, spent)
 }
 
-// Writes every place of every table.
-fn save(memory: &mut [u8], events: &[(u32, u32, u16)], bits: u32, redists: &[Redist]) {
+// Writes every place of every table into one flat memory, from a vector of events: the least that a save can do.
+fn save_flat(memory: &mut [u8], events: &[(u32, u32, u16)], bits: u32, redists: &[Redist]) {
     let mut put = |at: usize, word: u64| memory[at..at + 8].copy_from_slice(&word.to_le_bytes());
     let device = 1 << 63 | ((0x8000_0000 + EVENT_TABLE) as u64 >> 8) << 5 | u64::from(bits - 1);
     for dev in 0..TABLE_BYTES / 8 {
@@ -562,15 +565,133 @@ fn save(memory: &mut [u8], events: &[(u32, u32, u16)], bits: u32, redists: &[Red
     }
 }
 
-fn saves(bits: u32) -> (u64, Duration) {
+fn saves_flat(bits: u32) -> (u64, Duration) {
     let mut memory = vec![1u8; MEMORY_BYTES];
-    let events: Vec<_> = (0..1u32 << bits).map(|ev| (ev, FIRST_LPI + ev % LPIS as u32, 1)).collect();
-    let redists: Vec<_> = (0..VCPUS)
-        .map(|_| Redist { pending: vec![0; LPIS / 64], summary: vec![0; LPIS / 64 / 64], enabled: vec![0; LPIS / 64] })
-        .collect();
+    let (events, redists): (Vec<_>, _) = (events(bits).collect(), redists());
     let since = Instant::now();
     for _ in 0..4 {
-        save(&mut memory, &events, bits, &redists);
+        save_flat(&mut memory, &events, bits, &redists);
+        black_box(&mut memory);
+    }
+    (4, since.elapsed())
+}
+
+type Page = Box<[u8]>;
+
+// Guest memory in pages of 64 KiB, of which those are held that aren't zero.
+struct Pages {
+    held: Vec<Option<Page>>,
+}
+
+// The events of a device: a sorted directory of pages of 64 places, each with an event at least.
+struct EventPages {
+    directory: Vec<(u32, Box<[Option<(u32, u16)>; 64]>)>,
+}
+
+impl EventPages {
+    fn new(events: impl Iterator<Item = (u32, u32, u16)>) -> EventPages {
+        let mut directory: Vec<(u32, Box<[Option<(u32, u16)>; 64]>)> = Vec::new();
+        for (ev, intid, icid) in events {
+            if directory.last().is_none_or(|page| page.0 != ev / 64) {
+                directory.push((ev / 64, Box::new([None; 64])));
+            }
+            directory.last_mut().unwrap().1[ev as usize % 64] = Some((intid, icid));
+        }
+        EventPages { directory }
+    }
+
+    // The words of as many events from the first on, from the last to the first, so that the next one is known at each.
+    fn words(&self, first: u32, words: &mut [u64]) {
+        let from = self.directory.partition_point(|page| page.0 < first / 64);
+        let to = self.directory.partition_point(|page| page.0 < (first + words.len() as u32).div_ceil(64));
+        let mut next = self.directory.get(to).map(|(number, page)| {
+            64 * number + page.iter().position(|event| event.is_some()).unwrap_or(0) as u32
+        });
+        for (number, page) in self.directory[from..to].iter().rev() {
+            for (at, event) in page.iter().enumerate().rev() {
+                if let Some((intid, icid)) = event {
+                    let ev = 64 * number + at as u32;
+                    let distance = next.map_or(0, |next| u64::from(next - ev).min(0xffff));
+                    words[(ev - first) as usize] = distance << 48 | u64::from(*intid) << 16 | u64::from(*icid);
+                    next = Some(ev);
+                }
+            }
+        }
+    }
+}
+
+impl Pages {
+    // Writes a block that lies in one page into a copy of it that is not laid over memory yet. Zeros over a page that
+    // isn't held take none.
+    fn draft(&self, drafts: &mut [Option<Page>], at: usize, words: &[u64]) {
+        let page = at / HELD_PAGE;
+        if drafts[page].is_none() && self.held[page].is_none() && words.iter().all(|word| *word == 0) {
+            return;
+        }
+        let draft = drafts[page].get_or_insert_with(|| match &self.held[page] {
+            Some(held) => held.clone(),
+            None => vec![0; HELD_PAGE].into_boxed_slice(),
+        });
+        for (bytes, word) in draft[at % HELD_PAGE..].chunks_exact_mut(8).zip(words) {
+            bytes.copy_from_slice(&word.to_le_bytes());
+        }
+    }
+
+    // Writes so many words of a table, in blocks, each of which is first made by itself.
+    fn draft_table(&self, drafts: &mut [Option<Page>], at: usize, count: usize, fill: impl Fn(usize, &mut [u64])) {
+        for first in (0..count).step_by(BLOCK) {
+            let mut block = [0u64; BLOCK];
+            let words = &mut block[..BLOCK.min(count - first)];
+            fill(first, words);
+            self.draft(drafts, at + 8 * first, words);
+        }
+    }
+
+    // Writes every place of every table into pages that are laid over memory once all are written.
+    fn save(&mut self, events: &EventPages, bits: u32, redists: &[Redist]) {
+        let mut drafts: Vec<Option<Page>> = self.held.iter().map(|_| None).collect();
+        let device = 1 << 63 | ((0x8000_0000 + EVENT_TABLE) as u64 >> 8) << 5 | u64::from(bits - 1);
+        self.draft_table(&mut drafts, DEVICE_TABLE, TABLE_BYTES / 8, |first, words| {
+            if first == 0 {
+                words[WIDE as usize] = device;
+            }
+        });
+        self.draft_table(&mut drafts, COLLECTION_TABLE, TABLE_BYTES / 8, |first, words| {
+            for icid in first..VCPUS.min(first + words.len()) {
+                words[icid - first] = 1 << 63 | (icid as u64) << 16 | icid as u64;
+            }
+        });
+        self.draft_table(&mut drafts, EVENT_TABLE, 1 << bits, |first, words| events.words(first as u32, words));
+        for (vcpu, redist) in redists.iter().enumerate() {
+            let table = PENDING_TABLE + TABLE_BYTES * vcpu + 1024;
+            self.draft_table(&mut drafts, table, redist.pending.len(), |first, words| {
+                words.copy_from_slice(&redist.pending[first..][..words.len()]);
+            });
+        }
+        for (held, draft) in self.held.iter_mut().zip(drafts) {
+            if draft.is_some() {
+                *held = draft;
+            }
+        }
+    }
+}
+
+fn events(bits: u32) -> impl Iterator<Item = (u32, u32, u16)> {
+    (0..1u32 << bits).map(|ev| (ev, FIRST_LPI + ev % LPIS as u32, 1))
+}
+
+fn redists() -> Vec<Redist> {
+    (0..VCPUS).map(|_| Redist::new()).collect()
+}
+
+// Four saves, after one that isn't timed.
+fn saves(bits: u32) -> (u64, Duration) {
+    let mut memory = Pages { held: (0..MEMORY_BYTES / HELD_PAGE).map(|_| None).collect() };
+    let (events, redists) = (EventPages::new(events(bits)), redists());
+    memory.save(&events, bits, &redists);
+    let since = Instant::now();
+    for _ in 0..4 {
+        memory.save(black_box(&events), bits, &redists);
         black_box(&mut memory);
     }
     (4, since.elapsed())
@@ -614,7 +735,7 @@ fn main() {
     let count: u32 = words.get(1).and_then(|word| word.parse().ok()).expect("usage: ports_peer COUNT [NAME]");
     let bits = count.clamp(2, 65_536).ilog2();
     let events = 1 << bits;
-    let all: [(&str, &dyn Fn() -> (u64, Duration)); 17] = [
+    let all: [(&str, &dyn Fn() -> (u64, Duration)); 18] = [
         ("hit-1", &|| hits(count)),
         ("miss-1", &|| misses(events.min(8192), count)),
         ("signal-1", &|| signals(&DEVICES[..1], count)),
@@ -630,6 +751,7 @@ fn main() {
         ("take-1", &|| takes(events.min(1024), count)),
         ("step", &|| (u64::from(events), with_events(events).1)),
         ("save", &|| saves(bits)),
+        ("save-flat", &|| saves_flat(bits)),
         ("poke", &|| pokes(count)),
         ("copy", &|| copies(count.min(1000))),
     ];
