@@ -273,6 +273,18 @@ def examples():
                 yield TOP / page, f"says nothing of {path.name}"
 
 
+def edits():
+    """Edits that docs/TESTING.md names by their crate, as in "its_maps: an_edit, another"."""
+    page = TOP / "docs/TESTING.md"
+    for cells in rows(page, "Edits that must fail", 2):
+        for part in cells[1].split("; "):
+            named, _, names = part.partition(": ")
+            for crate in named.split(", "):
+                for name in re.findall(r"\b[a-z0-9]+(?:_[a-z0-9]+)+\b", names):
+                    if not (CRATES / crate / "must-fail" / f"{name}.edit").exists():
+                        yield page, f"{crate}: no edit {name}"
+
+
 def words():
     """Each word of scripts and of reports stands in docs/FORMATS.md."""
     page = TOP / "docs/FORMATS.md"
@@ -304,7 +316,7 @@ def versions():
 
 CHECKS = (
     links, promises, architecture, files, owners, command_files,
-    examples, words, versions, counts, figures, speed,
+    edits, examples, words, versions, counts, figures, speed,
 )
 
 
