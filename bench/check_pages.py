@@ -289,11 +289,29 @@ def words():
     """Each word of scripts and of reports stands in docs/FORMATS.md."""
     page = TOP / "docs/FORMATS.md"
     told = set(re.findall(r"[\w-]+", " ".join(re.findall(r"`([^`]+)`", page.read_text(encoding="utf-8")))))
+    spans = set(re.findall(r"`([^`]+)`", page.read_text(encoding="utf-8")))
+    grammar = (CRATES / "its_explain/src/grammar.rt").read_text(encoding="utf-8")
+    for form in re.findall(r'"(?:command ADDR )?([a-z-]+(?: [A-Z][A-Z0-9]*)+)"', grammar):
+        if form not in spans and not form.startswith(("brestore", "an ")):
+            yield page, f"doesn't have the line {form} of its_explain"
     for place in ("event_script/src/words.rt", "its_history/src/replies.rt"):
         code = (CRATES / place).read_text(encoding="utf-8")
         for word in re.findall(r'=> (?:out\.push_str\()?"([a-z][a-z0-9-]*[a-z0-9])"', code):
             if word not in told:
                 yield page, f"doesn't have the word {word} of {place}"
+
+
+def library():
+    """The calls of include/its.h: docs/LIBRARY.md says how many there are, and has each."""
+    header = (TOP / "include/its.h").read_text(encoding="utf-8")
+    calls = re.findall(r"^uint32_t (its_\w+)\(", header, re.M)
+    page = TOP / "docs/LIBRARY.md"
+    text = page.read_text(encoding="utf-8")
+    if f"with {len(calls)} calls" not in text:
+        yield page, f"doesn't say that there are {len(calls)} calls"
+    for call in calls:
+        if not has(text, call):
+            yield page, f"says nothing of {call}"
 
 
 def versions():
@@ -316,7 +334,7 @@ def versions():
 
 CHECKS = (
     links, promises, architecture, files, owners, command_files,
-    edits, examples, words, versions, counts, figures, speed,
+    edits, examples, words, library, versions, counts, figures, speed,
 )
 
 
