@@ -31,6 +31,7 @@ SHIM = """
 #include <stdatomic.h>
 #include <stdio.h>
 #include <stdlib.h>
+#include <unistd.h>
 
 static atomic_long asked, pages;
 /* How many pages there are when threads are started, and when the thread that was refused asks again. */
@@ -53,11 +54,11 @@ static int is_refused(void) {
     return 1;
 }
 
-#define REAL(name, type) static type real; if (!real) real = (type)dlsym(RTLD_NEXT, name)
+#define REAL(name) static __typeof__(name) *real; if (!real) real = (__typeof__(real))dlsym(RTLD_NEXT, #name)
 #define REFUSE do { if (is_refused()) { errno = ENOMEM; return NULL; } } while (0)
 
 void *malloc(size_t size) {
-    REAL("malloc", void *(*)(size_t));
+    REAL(malloc);
     REFUSE;
     void *block = real(size);
     count(block, 1);
@@ -65,7 +66,7 @@ void *malloc(size_t size) {
 }
 
 void *realloc(void *old, size_t size) {
-    REAL("realloc", void *(*)(void *, size_t));
+    REAL(realloc);
     REFUSE;
     count(old, -1);
     void *block = real(old, size);
@@ -74,7 +75,7 @@ void *realloc(void *old, size_t size) {
 }
 
 void *aligned_alloc(size_t alignment, size_t size) {
-    REAL("aligned_alloc", void *(*)(size_t, size_t));
+    REAL(aligned_alloc);
     REFUSE;
     void *block = real(alignment, size);
     count(block, 1);
@@ -82,19 +83,22 @@ void *aligned_alloc(size_t alignment, size_t size) {
 }
 
 void free(void *block) {
-    REAL("free", void (*)(void *));
+    REAL(free);
     count(block, -1);
     real(block);
 }
 
 int pthread_create(pthread_t *thread, const pthread_attr_t *attr, void *(*start)(void *), void *given) {
-    REAL("pthread_create", int (*)(pthread_t *, const pthread_attr_t *, void *(*)(void *), void *));
+    REAL(pthread_create);
     atomic_store(&before, atomic_load(&pages));
     return real(thread, attr, start, given);
 }
 
-__attribute__((destructor)) static void tell(void) {
+void _exit(int status) {
+    REAL(_exit);
     fprintf(stderr, "pages %ld %ld\\n", atomic_load(&before), atomic_load(&after));
+    real(status);
+    __builtin_unreachable();
 }
 """
 
