@@ -1,0 +1,5 @@
+pub mod Fits
+pub mod Fronts
+pub mod Moves
+pub mod Outcomes
+pub mod Trails

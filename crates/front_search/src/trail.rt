@@ -1,0 +1,159 @@
+//! How far a search is: the calls that are placed, and the states before them.
+ghost use Rattle.std.specs.Prelude.{◌≡◌, ◌<◌, ◌≤◌, ◌+◌, ◌^◌, IfOk, OnOk, MatchOption};
+ghost use Rattle.std.specs.Prelude.{length, map, replicate};
+ghost use Rattle.front_search.specs.Fronts as spec;
+ghost use Rattle.front_search.specs.Moves.{IsEmpty, IsKept, IsNew, IsPlaced, IsReturned, IsSkipped};
+ghost use Rattle.front_search.specs.Moves.{IsTaken};
+
+use crate::span::Span;
+use its_types::Listed;
+use std::alloc::{AllocError, Global};
+use std::mem::replace;
+
+/// A call that is placed.
+#[derive(Drop)]
+pub struct Placed<S> {
+    /// Counted from 0.
+    thread: usize,
+    /// The state that it was made in.
+    before: S,
+}
+
+/// How far a search is.
+#[derive(Drop)]
+pub struct Search<S> {
+    /// The calls that are placed, in their order.
+    path: Vec<Placed<S>>,
+    /// How many of each thread they are.
+    front: Vec<usize>,
+    /// What they leave.
+    state: S,
+    /// No order fits in which these calls and then one of a lower thread come first.
+    next: usize,
+    /// The longest order of calls that went and from which the search went back.
+    reached: Vec<usize>,
+}
+
+impl<S: Drop> Search<S> {
+    /// No call is placed yet.
+    pub fn new(alloc: Global, first: S, threads: &[Listed<Span>]) -> Result<Search<S>, AllocError>
+        ensures { IfOk result (λ s. IsNew threads.now first s) }
+    {
+        let front = zeros(alloc, threads.len())?;
+        Ok(Search {
+            path: Vec::new(alloc),
+            front,
+            state: first,
+            next: 0,
+            reached: Vec::new(alloc),
+        })
+    }
+
+    /// How many calls of each thread are placed.
+    pub fn front(&self) -> &[usize]
+        ensures { result.now ≡ self.now.front.items }
+    {
+        &self.front
+    }
+
+    /// What the placed calls leave.
+    pub fn state(&self) -> &S
+        ensures { result.now ≡ self.now.state }
+    {
+        &self.state
+    }
+
+    /// The least thread that may come next.
+    pub fn next(&self) -> usize
+        ensures { result ≡ self.now.next }
+    {
+        self.next
+    }
+
+    /// The longest order of calls that went and from which the search went back.
+    pub fn into_reached(self) -> Vec<usize>
+        ensures { result.items ≡ self.reached.items }
+    {
+        self.reached
+    }
+
+    /// How many calls of a thread are placed.
+    pub fn placed(&self, thread: usize) -> usize
+        requires { thread < length self.now.front.items }
+        ensures { result ≡ spec.placed self.now.front.items thread }
+    {
+        self.front[thread]
+    }
+
+    /// The threads of the calls that are placed, in their order.
+    pub fn order(&self, alloc: Global) -> Result<Vec<usize>, AllocError>
+        ensures { IfOk result (λ v. v.items ≡ map (λ p. p.thread) self.now.path.items) }
+    {
+        let mut order = Vec::new(alloc);
+        for placed in &self.path {
+            order.push(placed.thread)?;
+        }
+        Ok(order)
+    }
+
+    /// Places the next call of a thread, which leaves this state.
+    pub fn place(&mut self, thread: usize, state: S) -> Result<(), AllocError>
+        requires below { thread < length self.old.front.items }
+        requires fits { spec.placed self.old.front.items thread + 1 < 2 ^ 64 }
+        ensures { OnOk result (IsPlaced thread state self.old self.new) }
+    {
+        let count = self.front[thread] + 1;
+        let before = replace(&mut self.state, state);
+        self.path.push(Placed { thread, before })?;
+        self.front[thread] = count;
+        self.next = 0;
+        Ok(())
+    }
+
+    /// Leaves a thread out.
+    pub fn skip(&mut self, thread: usize)
+        requires { thread + 1 < 2 ^ 64 }
+        ensures { IsSkipped thread self.old self.new }
+    {
+        self.next = thread + 1;
+    }
+
+    /// Keeps the order of the calls that are placed, if it is the longest.
+    pub fn keep_longest(&mut self, alloc: Global) -> Result<(), AllocError>
+        ensures { OnOk result (IsKept self.old self.new) }
+    {
+        if self.path.len() > self.reached.len() {
+            self.reached = self.order(alloc)?;
+        }
+        Ok(())
+    }
+
+    /// Takes the last call from the path.
+    pub fn take_last(&mut self) -> Option<Placed<S>>
+        ensures { MatchOption result (IsEmpty self.old self.new)
+            (λ p. IsTaken p self.old self.new) }
+    {
+        self.path.pop()
+    }
+
+    /// Goes back to before a call that was taken from the path.
+    pub fn return_to(&mut self, last: Placed<S>)
+        requires below { last.thread < length self.old.front.items }
+        requires some { 1 ≤ spec.placed self.old.front.items last.thread }
+        requires fits { last.thread + 1 < 2 ^ 64 }
+        ensures { IsReturned last self.old self.new }
+    {
+        let Placed { thread, before } = last;
+        let count = self.front[thread] - 1;
+        self.front[thread] = count;
+        self.next = thread + 1;
+        self.state = before;
+    }
+}
+
+/// So many counts of nothing.
+fn zeros(alloc: Global, count: usize) -> Result<Vec<usize>, AllocError>
+    ensures { IfOk result (λ v. v.items ≡ replicate count 0) }
+{
+    Ok(vec![in alloc; 0; count]?)
+}
