@@ -3,8 +3,8 @@ use Rattle.std.proofs.Common.{◌≡◌, ℕ, ◌+◌, ◌-◌, ◌^◌, ◌<◌
 use Rattle.std.specs.Prelude.{MatchOption, option_to_list}
 use Rattle.std.proofs.lemmas.List.{length-replicate, length-set}
 use Rattle.front_search.specs.Fits.{Answers, Leads, Fits}
-use Rattle.front_search.specs.Fronts.{Threads, Front, MayGo, more, placed, start}
-use Rattle.front_search.specs.Moves.{IsEmpty, IsKept, IsNew, IsPlaced, IsReturned, IsSkipped, IsTaken, less, threads_of}
+use Rattle.front_search.specs.Fronts.{Threads, Front, MayGo, placed, start}
+use Rattle.front_search.specs.Moves.{IsEmpty, IsKept, IsNew, IsPlaced, IsReturned, IsSkipped, IsTaken, threads_of}
 use Rattle.front_search.specs.Trails.{NoneBelow, Steps, Trail, IsAt, IsReached, NoneFits}
 use Rattle.front_search.specs.declared.trail.Placed.{Placed}
 use Rattle.front_search.specs.declared.trail.Search.{Search}

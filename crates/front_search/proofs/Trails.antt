@@ -1,15 +1,14 @@
 -- Trails grow and shrink at their end.
-use Rattle.std.proofs.Common.{◌≡◌, ℕ, ◌+◌, ◌-◌, ◌^◌, ◌<◌, ◌≤◌, Bool, true, false, List, [], ◌∷◌, ◌++◌, length, map, get_or, Option, Some, None, refl, sym, ap, subst, ◌∙◌, inl, inr, arith}
+use Rattle.std.proofs.Common.{◌≡◌, ℕ, ◌+◌, ◌-◌, ◌^◌, ◌<◌, ◌≤◌, Bool, true, false, List, [], ◌∷◌, ◌++◌, length, map, Option, Some, None, refl, sym, ap, subst, ◌∙◌, inl, inr, arith}
 use Rattle.std.proofs.lemmas.Bool.{cases_lt}
-use Rattle.std.proofs.lemmas.List.{get_or_past, get_or-set_same, length-set, length-replicate, set-set, set-get_or}
+use Rattle.std.proofs.lemmas.List.{get_or_past, get_or-set_same, length-set, set-set, set-get_or}
 use Rattle.std.specs.Prelude.{slice_get, slice_set}
 use Rattle.std.specs.Bool.{Decides}
-use Rattle.front_search.specs.Fits.{Answers, GoesTo, Leads, Fits}
+use Rattle.front_search.specs.Fits.{Answers, Leads, Fits}
 use Rattle.front_search.specs.Fronts.{Threads, Front, MayGo, IsWhole, ReturnedBefore, next_of, more, placed, start}
-use Rattle.front_search.specs.Moves.{IsKept, IsNew, IsPlaced, IsReturned, IsSkipped, IsTaken, less, threads_of}
-use Rattle.front_search.specs.Trails.{NoneBelow, Steps, Trail, IsAt, IsReached, NoneFits}
+use Rattle.front_search.specs.Moves.{less}
+use Rattle.front_search.specs.Trails.{NoneBelow, Steps, Trail}
 use Rattle.front_search.specs.declared.trail.Placed.{Placed}
-use Rattle.front_search.specs.declared.trail.Search.{Search}
 use Rattle.front_search.specs.declared.span.Span.{Span}
 
 -- ---- fronts

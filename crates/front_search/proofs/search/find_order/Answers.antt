@@ -1,6 +1,6 @@
 use Rattle.std.proofs.Common.{◌∙◌, ◌≤◌, ℕ, List, length, ap, subst, sym}
 use Rattle.std.proofs.lemmas.Bool.Decides.{not_from_Decides}
-use Rattle.front_search.specs.Fronts.{MayGo, placed}
+use Rattle.front_search.specs.Fronts.{MayGo}
 use Rattle.front_search.specs.Trails.{IsReached}
 use Rattle.front_search.proofs.States.{at_start, fits_at}
 use Rattle.front_search.proofs.search.find_order.Goals as goal

@@ -1,5 +1,4 @@
-use Rattle.front_search.specs.Moves.{IsTaken}
-use Rattle.front_search.proofs.States.{IsDone, at_returned, back_of, none_of, path_returned, reached_of}
+use Rattle.front_search.proofs.States.{at_returned, back_of, none_of, path_returned, reached_of}
 use Rattle.front_search.proofs.search.go_back.Goals as goal
 
 pub return_to-requires-clause-below : goal.return_to-requires-clause-below
