@@ -39,7 +39,7 @@ use actors::Counts;
 use beside::{BESIDE, time_beside};
 use its_types::MOST_VCPUS;
 use latencies::Latencies;
-use many::{MANY, SIZES, time_many};
+use many::{MANY, Many, SIZES, time_many};
 use measure::Lap;
 use play::{Mapped, play};
 use std::alloc::Global;
@@ -120,11 +120,22 @@ fn print_many<R: Clock + Print + AllocGlobal + Wait>(
 ) -> io::Result<()> {
     for (name, many) in MANY {
         if only.is_none_or(|only| only == name) {
-            for vcpus in SIZES {
-                let lap = time_many(rt, rt.alloc(), many, vcpus, count)?;
-                print_time(rt, &format!(in rt.alloc(); "{name}-of-{vcpus}")?, &lap)?;
-            }
+            print_sizes(rt, name, many, count)?;
         }
+    }
+    Ok(())
+}
+
+// Makes calls of one kind on machines of either size, and prints what they took.
+fn print_sizes<R: Clock + Print + AllocGlobal + Wait>(
+    rt: &R,
+    name: &str,
+    many: Many,
+    count: u32,
+) -> io::Result<()> {
+    for vcpus in SIZES {
+        let lap = time_many(rt, rt.alloc(), many, vcpus, count)?;
+        print_time(rt, &format!(in rt.alloc(); "{name}-of-{vcpus}")?, &lap)?;
     }
     Ok(())
 }
