@@ -1,7 +1,7 @@
 //! Redistributors in hand: what is pending, which LPI comes first, and registers.
 use crate::lpi_pending_acts::{Act, Redistributor, byte, off, on, play, set_byte};
 use guest_windows::Memory;
-use its_types::{Addr, Bases, Intid, Vcpu};
+use its_types::{Addr, Intid, Vcpu};
 use lpi_pending::{Pending, Redists};
 use std::alloc::Global;
 use std::test::Fail;
@@ -186,6 +186,12 @@ fn redistributors_do_as_they_are_told(rt: HostRuntime) -> Result<(), Fail> {
     Ok(())
 }
 
+// Whether that is an LPI, and pending.
+fn has(pending: &Pending, lpi: u32) -> bool {
+    let intid = Intid(lpi);
+    intid.in_range(pending.lpi_bits()) && pending.has(intid)
+}
+
 #[test]
 fn bytes_of_a_pending_table(rt: HostRuntime) -> Result<(), Fail> {
     let mut pending = Pending::new(rt.alloc(), 14)?;
@@ -194,7 +200,7 @@ fn bytes_of_a_pending_table(rt: HostRuntime) -> Result<(), Fail> {
     assert!(rt; byte(&pending, 1024) == Some(0) && byte(&pending, 1025) == Some(0x81));
     assert!(rt; set_byte(&mut pending, 1025, 0x02) && set_byte(&mut pending, 2047, 0x80));
     assert_eq!(rt; byte(&pending, 1025), Some(0x02));
-    assert!(rt; pending.has(Intid(8201)) && !pending.has(Intid(8200)) && pending.has(Intid(16383)));
+    assert!(rt; has(&pending, 8201) && !has(&pending, 8200) && has(&pending, 16383));
     Ok(())
 }
 
@@ -206,9 +212,10 @@ fn redistributors_in_hand(rt: HostRuntime) -> Result<(), Fail> {
     let mut redists = Redists::with_room(rt.alloc(), 512)?;
     redists.place_conf(Vcpu(511), conf);
     redists.place_pend(Vcpu(511), pend);
-    let mut bases = Bases::off();
+    let conf = redists.conf_mut(Vcpu(511));
+    let mut bases = *conf.bases();
     bases.pend.table = Addr(0x8004_0000);
-    redists.conf_mut(Vcpu(511)).set_bases(bases);
+    conf.set_bases(bases);
     let conf = redists.take_conf(Vcpu(511));
     redists.place_conf(Vcpu(511), conf);
     redists.pend_mut(Vcpu(511)).turn_off();

@@ -23,7 +23,7 @@ apply-requires-clause-parts g c =
     })
     c.keeps_rules.ensures (ap (λ (r : Registers). r.dev_bits) c.reset-regs.ensures)
     (good_windows windows c.in_ok-memory.memory c.in_ok-memory.ensures.ok c.in_ok-memory.ensures.fits)
-    (c.make_room.ensures.maps ∙ c.new-maps.ensures) 4 c.in-Ok-redists.ensures
+    (c.make_room.ensures.maps ∙ c.new-maps.ensures) 4 c.in-Ok.ensures
 
 pub apply-requires-clause-in_hand : goal.apply-requires-clause-in_hand
 apply-requires-clause-in_hand g c = mapc_needs_none _ _ _ _ _ _ refl (c.plan-planned.ensures.plan.command ∙ c.mapc.ensures)
