@@ -511,15 +511,26 @@ WRAPPED(gicv3_redist_lpi_pending);
 WRAPPED(qdev_new);
 
 /*
- * The processor whose register of LPIs stands there, of those that the library has. `offset`
- * becomes that in its frames. GICR_TYPER says that there is no GICR_INVLPIR and no GICR_INVALLR.
+ * Whether the library has the register. As it says by GICR_CTLR.IR, GICR_INVLPIR and GICR_INVALLR
+ * are there: a Linux then sends no INV, and writes these. GICR_SYNCR reads zero: nothing is under
+ * way.
  */
+static bool is_of_lpis(hwaddr offset, unsigned size)
+{
+    hwaddr whole = offset & ~7ULL;
+
+    return size >= 4 && (offset == GICR_CTLR || whole == GICR_PROPBASER ||
+                         whole == GICR_PENDBASER || whole == GICR_INVLPIR ||
+                         whole == GICR_INVALLR || offset == GICR_SYNCR);
+}
+
+/* The processor whose register stands there, which `offset` becomes in its frames, or -1. */
 static int processor_of(GICv3RedistRegion *region, hwaddr *offset, unsigned size)
 {
     hwaddr frames = gicv3_redist_size(region->gic), in = *offset % frames;
     int vcpu = region->cpuidx + *offset / frames;
 
-    if (!chosen || size < 4 || (in != GICR_CTLR && (in & ~15ULL) != GICR_PROPBASER)) {
+    if (!chosen || !is_of_lpis(in, size)) {
         return -1;
     }
     *offset = in;
@@ -539,7 +550,21 @@ MemTxResult __wrap_gicv3_redist_read(void *opaque, hwaddr offset, uint64_t *valu
     return MEMTX_OK;
 }
 
-/* As LPIs are turned on, both tables are read. */
+/* What the library reads of guest memory at a write of a register, as it stands there now. */
+static void copy_for(GICv3CPUState *cs, hwaddr offset, uint64_t value)
+{
+    uint32_t place = value - GICV3_LPI_INTID_START;
+
+    if (offset == GICR_CTLR && (value & ~cs->gicr_ctlr & GICR_CTLR_ENABLE_LPIS)) {
+        copy_in(chosen, config_of(cs), CONFIG_BYTES);
+        copy_in(chosen, pending_of(cs), PENDING_BYTES);
+    } else if (offset == GICR_INVLPIR && place < CONFIG_BYTES) {
+        copy_in(chosen, config_of(cs) + place, 1);
+    } else if (offset == GICR_INVALLR) {
+        copy_in(chosen, config_of(cs), CONFIG_BYTES);
+    }
+}
+
 MemTxResult __wrap_gicv3_redist_write(void *opaque, hwaddr offset, uint64_t value, unsigned size,
                                       MemTxAttrs attrs)
 {
@@ -550,10 +575,7 @@ MemTxResult __wrap_gicv3_redist_write(void *opaque, hwaddr offset, uint64_t valu
         return __real_gicv3_redist_write(opaque, offset, value, size, attrs);
     }
     cs = &chosen->gic->cpu[vcpu];
-    if (offset == GICR_CTLR && (value & ~cs->gicr_ctlr & GICR_CTLR_ENABLE_LPIS)) {
-        copy_in(chosen, config_of(cs), CONFIG_BYTES);
-        copy_in(chosen, pending_of(cs), PENDING_BYTES);
-    }
+    copy_for(cs, offset, value);
     uint32_t answer = its_write_lpi_register(chosen->handle, vcpu, offset, size, value);
 
     /* Out of memory LPIs stay off, and GICR_CTLR reads so. */
