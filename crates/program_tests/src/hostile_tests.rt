@@ -283,7 +283,7 @@ fn inputs_and_words_are_refused(rt: HostRuntime) -> Result<(), Fail> {
     vcpus 17
           ^
 line 1, field 2: \"17\" is out of range
-Here stands the count, 1 to 16.
+Here stands the count (for more see `processors N`), 1 to 16.
 The line is `vcpus N`.
 ",
         ),
