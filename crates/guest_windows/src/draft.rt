@@ -302,7 +302,7 @@ fn put_piece(
 {
     let page = at / 65_536;
     let under = frame.chunk_of(page);
-    if are_zeros(bytes) && !is_held(chunks, under, window, page) {
+    if !is_held(chunks, under, window, page) && are_zeros(bytes) {
         return Ok(());
     }
     let place = lay_chunk(chunks, alloc, window, page)?;

@@ -41,7 +41,8 @@ pub struct MakeFaultOut {
     /// the register at `register_offset` can't stand beside the others; 12 `collection` has no
     /// place in the table; 13 a table of the redistributor of `vcpu` doesn't lie in one window.
     ///
-    /// 14 and 15 aren't told yet: the frames of translator `number`, and requesters.
+    /// 14 the frames of translator `number` end past 2^52 or share a byte with a window; 15 element
+    /// `number` of the requesters is out of range or meets another.
     pub kind: u32,
     /// The number of a virtual processor.
     pub vcpu: u32,

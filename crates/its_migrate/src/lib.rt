@@ -1,7 +1,7 @@
 //! How a machine is made that threads share, its saves, migrations and pre-copies, and what is
 //! pending in it at rest.
 //!
-//! `share` has seven clauses: each says of one thing that passes have in common how it begins.
+//! `share` has one clause: how each thing that passes have in common begins.
 #![tactic(auto)]
 
 mod laws;

@@ -1,7 +1,7 @@
 //! The state that guest memory and register values stand for, or their first fault (KVM document
 //! arm-vgic-its, "ITS Restore Sequence").
 //!
-//! Restores have up to ten clauses: what is given has to be in hand and in range, and what comes
+//! Restores have up to eleven clauses: what is given has to be in hand and in range, and what comes
 //! out is told of state, parts and faults.
 #![tactic(auto)]
 

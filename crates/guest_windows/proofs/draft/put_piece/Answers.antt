@@ -8,8 +8,8 @@ use Rattle.guest_windows.proofs.Fitting.{zero_at}
 use Rattle.guest_windows.proofs.DraftChunks.{wrote, has_slot, slot_is, in_page}
 use Rattle.guest_windows.proofs.draft.put_piece.Goals as goal
 
-pub returns-then-not-is_held-clause-here : goal.returns-then-not-is_held-clause-here
-returns-then-not-is_held-clause-here c k lt =
+pub returns-then-are_zeros-clause-here : goal.returns-then-are_zeros-clause-here
+returns-then-are_zeros-clause-here c k lt =
     let cs = c.args.chunks.now.items in
     let f = c.args.frame.now in
     let w = c.args.window in
