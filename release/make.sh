@@ -3,13 +3,14 @@
 # monitors, pages, examples, manual pages, what it was made from, and the checksums of all; that for x86_64
 # has the program too. The same files make the same archives, byte for byte.
 #
-# usage: release/make.sh GATE_LOG LIBRARY_AARCH64 [FOLDER]
+# usage: release/make.sh LIBRARY_AARCH64 LOG..
 #
-# GATE_LOG is what `.ci/run` printed for this commit, and LIBRARY_AARCH64 the libits_c.a that
-# `rt lib --target aarch64-unknown-linux-gnu` made of it; that they are of this commit is for the caller to
-# know. The program is what the gate leaves in crates/its_cli/out, the library for x86_64 what `rt lib` leaves
-# in crates/its_c/out; PROGRAM and LIBRARY in the environment name other files. The version is the first of
-# CHANGELOG.md. The archives are FOLDER/bacciledru-VERSION-PROCESSOR.tar.gz, in release/out without a FOLDER.
+# LIBRARY_AARCH64 is the libits_c.a that `rt lib --target aarch64-unknown-linux-gnu` made. The logs are what the runs
+# printed that proved this commit: `.ci/run`, or `rt ci its_cli its_c`, which proves and tries those and all that they
+# stand on, and that `rt lib`. Each crate that is linked has to be in one (proved.py); that they are of this commit is
+# for the caller to know. The program is what the gate leaves in crates/its_cli/out, the library for x86_64 what
+# `rt lib` leaves in crates/its_c/out; PROGRAM and LIBRARY in the environment name other files. The version is the first
+# of CHANGELOG.md. The archives are FOLDER/bacciledru-VERSION-PROCESSOR.tar.gz, in release/out without a FOLDER.
 set -euo pipefail
 export LC_ALL=C TZ=UTC
 umask 022
@@ -19,28 +20,30 @@ fail() {
     exit 1
 }
 
-if [ $# -lt 2 ] || [ $# -gt 3 ]; then
-    echo "usage: release/make.sh GATE_LOG LIBRARY_AARCH64 [FOLDER]" >&2
+if [ $# -lt 2 ]; then
+    echo "usage: release/make.sh LIBRARY_AARCH64 LOG.." >&2
     exit 2
 fi
-log=$(realpath "$1")
-library_aarch64=$(realpath -m "$2")
-folder=$(realpath -m "${3:-$(dirname "$0")/out}")
+library_aarch64=$(realpath -m "$1")
+mapfile -t logs < <(realpath -m -- "${@:2}")
+folder=$(realpath -m "${FOLDER:-$(dirname "$0")/out}")
 program=$(realpath -m "${PROGRAM:-$(dirname "$0")/../crates/its_cli/out/its_cli}")
 library_x86_64=$(realpath -m "${LIBRARY:-$(dirname "$0")/../crates/its_c/out/libits_c.a}")
 cd "$(dirname "$0")/.."
 
-for file in "$log" "$program" "$library_x86_64" "$library_aarch64"; do
+for file in "$program" "$library_x86_64" "$library_aarch64" "${logs[@]}"; do
     [ -f "$file" ] || fail "there is no $file"
 done
 [ -z "$(git status --porcelain)" ] || fail "the clone has changes that aren't committed"
-verdict=$(grep -E '[0-9]+ passed, [0-9]+ failed' "$log" | tail -n 1) || fail "$log has no count of what passed"
-[[ $verdict =~ (^|[^0-9])[1-9][0-9]*\ passed,\ 0\ failed ]] || fail "the gate failed: $verdict"
 version=$(sed -n 's/^## \([0-9][0-9]*\.[0-9][0-9]*\.[0-9][0-9]*\).*/\1/p' CHANGELOG.md | head -n 1)
 [ -n "$version" ] || fail "CHANGELOG.md has no version"
 kit=$(rt version)
 kit_folder=$(dirname "$(rt doc)")
 commit=$(git rev-parse HEAD)
+[ -z "$(printf '%s\n' "${logs[@]##*/}" | sort | uniq -d)" ] || fail "two logs have one name"
+export PYTHONDONTWRITEBYTECODE=1
+runs=$(python3 release/proved.py "$kit_folder" its_cli its_c its_c@aarch64-unknown-linux-gnu -- "${logs[@]}") ||
+    fail "not all was proved"
 said=$("$program" version | head -n 2)
 [ "$said" = "its $version (Bacciledru)
 for $kit" ] || fail "the program says of itself: $said"
@@ -69,13 +72,13 @@ filled() {
     shift 4
     mkdir -p "$to"
     install -m 644 "$library" "$to/libits_c.a"
-    install -m 644 "$log" "$to/gate.log"
+    install -D -m 644 -t "$to/logs" "${logs[@]}"
     copied "$to" include/its.h LICENSE-MIT LICENSE-APACHE CHANGELOG.md examples/README.md examples/compare.sh \
         'examples/*.its' 'examples/*.report' examples/variations examples/monitor \
         docs/LIBRARY.md docs/FORMATS.md docs/TUTORIAL.md docs/GLOSSARY.md docs/PROMISES.md docs/PEERS.md
     (cd "$to/examples/monitor" && rm README.md run.sh check_header.py)
-    printf 'bacciledru %s\nprocessor %s\ncommit %s\nkit %s\ngate %s\n' \
-        "$version" "$processor" "$commit" "$kit" "$verdict" >"$to/VERSION"
+    printf 'bacciledru %s\nprocessor %s\ncommit %s\nkit %s\n%s\n' \
+        "$version" "$processor" "$commit" "$kit" "$runs" >"$to/VERSION"
     python3 release/materials.py "$kit_folder" "$to/licenses" "$@" >"$to/MATERIALS"
     python3 release/pages.py "$to" "$processor" "version=$version" "target=$processor" "packages=$packages" \
         "kit=$kit" "commit=$commit" "date=$(git log -1 --format=%cd --date=format-local:%Y-%m-%d)"

@@ -8,32 +8,13 @@ in its src/ (of the lines that sha256sum prints for them, by their paths). It ru
 """
 import hashlib
 import os
-import re
 import shutil
 import sys
 
+from linked import all_below, read_uses
+
 kit, licences, *made = sys.argv[1:]
-uses = {}
-for line in open("crates.txt", encoding="utf-8"):
-    if not line.startswith("#") and ":" in line:
-        head, below = line.split(":")
-        uses[head.split()[0]] = below.split()
-
-
-def below(name):
-    """The crates that one names."""
-    if name in uses:
-        return uses[name] + ["std"]
-    with open(f"{kit}/rlibs/{name}.rlib/format", encoding="utf-8") as form:
-        return re.findall(r"^dep (\w+)$", form.read(), re.M)
-
-
-def all_below(name):
-    """A crate and those that it stands on, once each."""
-    found = [name]
-    for one in found:
-        found += [it for it in below(one) if it not in found]
-    return found
+uses = read_uses()
 
 
 def checksum(folder):
@@ -51,7 +32,7 @@ def checksum(folder):
 stands_in = {}
 for one in made:
     crate, file = one.split("=")
-    for name in all_below(crate):
+    for name in all_below(crate, uses, kit):
         stands_in.setdefault(name, []).append(file)
 for name in sorted(stands_in, key=lambda it: (it not in uses, it)):
     own = name in uses
