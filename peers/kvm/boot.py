@@ -1,5 +1,7 @@
 """Boots kernels with an init that plays operations, and runs `its`."""
 import concurrent.futures
+import functools
+import hashlib
 import os
 import shutil
 import subprocess
@@ -30,18 +32,51 @@ def archive(folder, operations, out):
                            check=True)
 
 
-def boot(folder, kernel, scripts, seconds):
-    """One boot: the kernel's name, the answers of the scripts that it began, and what the console said besides."""
-    operations = "\n".join(line for script in scripts for line in script.operations) + "\n"
+def run_qemu(folder, kernel, operations, seconds):
+    """What a boot's console says, and QEMU's status."""
     with tempfile.TemporaryDirectory() as work:
         archive(folder, operations, f"{work}/initrd")
         command = ["nice", "-n", "10", "timeout", str(seconds), *QEMU, "-kernel", kernel, "-initrd", f"{work}/initrd",
                    "-append", WORDS, "-serial", f"file:{work}/console"]
         ended = subprocess.run(command, stdout=subprocess.DEVNULL, stderr=subprocess.DEVNULL)
         with open(f"{work}/console", errors="replace") as file:
-            version, told, trouble = answers.read_answers(file.read())
-    if ended.returncode:
-        trouble.append(f"QEMU ended with status {ended.returncode}")
+            return file.read(), ended.returncode
+
+
+@functools.lru_cache
+def checksum(file):
+    with open(file, "rb") as opened:
+        return hashlib.sha256(opened.read()).hexdigest()
+
+
+def kept_at(folder, kernel, operations):
+    """Where a console is kept: by the checksum of all that it depends on."""
+    version = subprocess.run([QEMU[0], "--version"], stdout=subprocess.PIPE, text=True, check=True).stdout
+    made_of = [version, *QEMU, WORDS, checksum(kernel), checksum(f"{folder}/init"), operations]
+    return f"{os.environ['CONSOLES']}/{hashlib.sha256(repr(made_of).encode()).hexdigest()}"
+
+
+def console(folder, kernel, operations, seconds):
+    """As run_qemu; with CONSOLES, a folder, from there if an earlier boot of the same ended well."""
+    kept = kept_at(folder, kernel, operations) if "CONSOLES" in os.environ else None
+    if kept and os.path.isfile(kept):
+        with open(kept, errors="replace") as file:
+            return file.read(), 0
+    said, status = run_qemu(folder, kernel, operations, seconds)
+    if kept and status == 0:
+        with open(f"{kept}.new", "w") as file:
+            file.write(said)
+        os.replace(f"{kept}.new", kept)
+    return said, status
+
+
+def boot(folder, kernel, scripts, seconds):
+    """One boot: the kernel's name, the answers of the scripts that it began, and what the console said besides."""
+    operations = "\n".join(line for script in scripts for line in script.operations) + "\n"
+    said, status = console(folder, kernel, operations, seconds)
+    version, told, trouble = answers.read_answers(said)
+    if status:
+        trouble.append(f"QEMU ended with status {status}")
     return version, told, trouble
 
 
