@@ -27,29 +27,38 @@ APT::Architectures { "arm64"; };
 APT::Sandbox::User "";
 EOF
     export APT_CONFIG=$1/apt/apt.conf
-    apt-get -q update
+    asked get -q update
+}
+
+# A command of apt, which reads these lists once.
+asked() {
+    "apt-$1" -o Dir::Cache::pkgcache=pkgcache.bin -o Dir::Cache::srcpkgcache=srcpkgcache.bin -o Acquire::Languages=none "${@:2}"
 }
 
 # The newest kernel of each line that the suites' linux-image-cloud-arm64 depend on.
 newest() {
-    apt-cache show linux-image-cloud-arm64 | sed -n 's/^Depends:.*\(linux-image-[0-9][^ ,]*\).*/\1/p' | sort -uV |
+    asked cache show linux-image-cloud-arm64 | sed -n 's/^Depends:.*\(linux-image-[0-9][^ ,]*\).*/\1/p' | sort -uV |
         awk -F'[-.+]' '{ last[$3 "." $4] = $0 } END { for (line in last) print last[line] }' | sort -V
 }
 
-# The package that has the kernel itself. From 7.0 on linux-image depends on it, and is empty.
-holder() {
-    local binary=${1/linux-image/linux-binary}
-    if apt-cache show "$binary" >/dev/null 2>&1; then echo "$binary"; else echo "$1"; fi
+# The packages that have the kernels themselves. From 7.0 on linux-image depends on linux-binary, and is empty.
+holders() {
+    local there package binary
+    there=$(asked cache pkgnames linux-binary)
+    for package in "$@"; do
+        binary=${package/linux-image/linux-binary}
+        if grep -qxF "$binary" <<<"$there"; then echo "$binary"; else echo "$package"; fi
+    done
 }
 
 # PACKAGES may name others than the newest.
 fetch() {
-    local dir=$1 package file version
+    local dir=$1 packages package file version
     lists "$dir"
     mkdir -p "$dir/kernels" "$dir/packages"
-    for package in ${PACKAGES:-$(newest)}; do
-        package=$(holder "$package")
-        (cd "$dir/packages" && apt-get -q download "$package")
+    mapfile -t packages < <(holders ${PACKAGES:-$(newest)})
+    (cd "$dir/packages" && asked get -q download "${packages[@]}")
+    for package in "${packages[@]}"; do
         file=$(ls "$dir/packages/${package}"_*.deb)
         version=$(dpkg-deb -f "$file" Version)
         dpkg -x "$file" "$dir/packages/$package"
