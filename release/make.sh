@@ -7,7 +7,7 @@
 #
 # LIBRARY_AARCH64 is the libits_c.a that `rt lib --target aarch64-unknown-linux-gnu` made. The logs are what the runs
 # printed that proved this commit: `.ci/run`, or `rt ci its_cli its_c`, which proves and tries those and all that they
-# stand on, and that `rt lib`. Each crate that is linked has to be in one (proved.py); that they are of this commit is
+# stand on, and both `rt lib`. Each crate that is linked has to be in one (proved.py); that they are of this commit is
 # for the caller to know. The program is what the gate leaves in crates/its_cli/out, the library for x86_64 what
 # `rt lib` leaves in crates/its_c/out; PROGRAM and LIBRARY in the environment name other files. The version is the first
 # of CHANGELOG.md. The archives are FOLDER/bacciledru-VERSION-PROCESSOR.tar.gz, in release/out without a FOLDER.
@@ -42,7 +42,8 @@ kit_folder=$(dirname "$(rt doc)")
 commit=$(git rev-parse HEAD)
 [ -z "$(printf '%s\n' "${logs[@]##*/}" | sort | uniq -d)" ] || fail "two logs have one name"
 export PYTHONDONTWRITEBYTECODE=1
-runs=$(python3 release/proved.py "$kit_folder" its_cli its_c its_c@aarch64-unknown-linux-gnu -- "${logs[@]}") ||
+runs=$(python3 release/proved.py "$kit_folder" its_cli its_c@x86_64-unknown-linux-gnu \
+    its_c@aarch64-unknown-linux-gnu -- "${logs[@]}") ||
     fail "not all was proved"
 said=$("$program" version | head -n 2)
 [ "$said" = "its $version (Bacciledru)

@@ -4,8 +4,9 @@
 usage: proved.py KIT CRATE[@TARGET].. -- LOG..    KIT is the kit's folder
 
 LOG is what `rt ci`, `rt ci NAME..`, or `rt lib --target TARGET` in the folder of a static library printed. A crate,
-and each of the repository that it stands on, has to be in a log of `rt ci` that ended with nothing failed; one with
-@TARGET has to be in a log of `rt lib` for that target. Prints a line for each log. It runs at the top of a clone.
+and each of the repository that it stands on, has to be in a log of `rt ci` that ended with nothing failed, or be the
+library of a log of `rt lib`; one with @TARGET has to be that of a log of `rt lib` for that target. Prints a line for
+each log. It runs at the top of a clone.
 """
 import os
 import re
@@ -23,7 +24,7 @@ def refuse(what):
 
 
 def read_log(path):
-    """What a log says in short, and the crates that it has, with @TARGET those of `rt lib`."""
+    """What a log says in short, and the crates that it has; that of `rt lib` with @TARGET too."""
     with open(path, encoding="utf-8", errors="replace") as file:
         text = file.read()
     counts, built = COUNTS.findall(text), BUILT.findall(text)
@@ -35,7 +36,7 @@ def read_log(path):
     if built:
         last = re.findall(r"^(?:fn|impl|struct|enum) (\w+)::.*: proved$", text, re.M)
         if last and text.rstrip().split("\n")[-1].startswith("logic=proved"):
-            return f"{last[-1]} proved for {built[-1]}", {f"{last[-1]}@{built[-1]}"}
+            return f"{last[-1]} proved for {built[-1]}", {last[-1], f"{last[-1]}@{built[-1]}"}
     refuse(f"{path} has no count of what passed, and isn't of a library that was proved for a target")
 
 
