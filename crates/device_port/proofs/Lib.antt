@@ -5,3 +5,4 @@ pub mod Mapped
 pub mod Sent
 pub mod Asked
 pub mod Doorbells
+pub mod Once
