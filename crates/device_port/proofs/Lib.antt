@@ -6,3 +6,4 @@ pub mod Sent
 pub mod Asked
 pub mod Doorbells
 pub mod Once
+pub mod Repeated

@@ -15,10 +15,10 @@ use Rattle.its_turns.specs.Calls.{IsPlaced, Leaves, TriesPart}
 use Rattle.its_turns.specs.declared.attempts.Attempt.{Attempt}
 use Rattle.its_turns.specs.declared.attempts.Attempt.TheVariants as attempt
 use Rattle.guest_port.specs.Pokes.{IsWriteReply, IfMade}
-use Rattle.device_port.specs.Dmas.{reply_of, Answers, written}
+use Rattle.device_port.specs.Dmas.{reply_of, Answers}
 use Rattle.device_port.specs.Messages.{message}
 use Rattle.device_port.specs.Signals.{SignalsOnce}
-use Rattle.device_port.specs.Tries.{DmasOnce, message_tried, write_tried}
+use Rattle.device_port.specs.Tries.{DmasOnce, message_tried, written, write_tried}
 
 module _ (v : View) (c : Call) (w : View) where
   -- a message

@@ -4,6 +4,7 @@ use Rattle.its_types.specs.declared.machine.Part.{Part}
 use Rattle.its_types.specs.declared.machine.Part.TheVariants as part
 use Rattle.its_plain.specs.declared.call.Call.{Call}
 use Rattle.its_plain.specs.declared.call.Reply.{Reply}
+use Rattle.its_plain.specs.declared.call.Reply.TheVariants as reply
 use Rattle.its_plain.specs.declared.call.Signal.{Signal}
 use Rattle.its_plain.specs.declared.call.Route.{Route}
 use Rattle.its_plain.specs.declared.call.Route.TheVariants as route
@@ -15,7 +16,7 @@ use Rattle.its_turns.specs.declared.attempts.Attempt.TheVariants as attempt
 use Rattle.its_turns.specs.declared.attempts.Lost.{Lost}
 use Rattle.its_turns.specs.declared.attempts.Lost.TheVariants as lost
 use Rattle.its_turns.specs.declared.turns.Busy.{Busy}
-use Rattle.device_port.specs.Dmas.{reply_of, Answers, written}
+use Rattle.device_port.specs.Dmas.{reply_of, Answers}
 use Rattle.device_port.specs.Messages.{message}
 use Rattle.device_port.specs.Signals.{IsOfSignal, SignalGot}
 use Rattle.device_port.specs.declared.told.Dma.{Dma}
@@ -55,6 +56,10 @@ message_tried (attempt.Done p) = attempt.Done (record { place = p.place; reply =
 message_tried (attempt.Busy b) = attempt.Busy b
 message_tried (attempt.Raced r) = attempt.Raced r
 message_tried attempt.Spent = attempt.Spent
+
+abbrev pub written : Reply → Dma
+written reply.Ok = dma.Ok
+written other = dma.Outside
 
 abbrev pub write_tried : Attempt Reply → Attempt Dma
 write_tried (attempt.Done p) = attempt.Done (record { place = p.place; reply = written p.reply })

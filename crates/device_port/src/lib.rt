@@ -12,7 +12,6 @@ mod home;
 mod laws;
 mod maps;
 mod message;
-mod nothing;
 mod signals;
 mod told;
 mod tried;
