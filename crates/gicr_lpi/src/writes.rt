@@ -101,8 +101,8 @@ fn write_once<R: Wait, G: Gate>(
     }
 }
 
-// The write has what it needs in hand.
-fn write_with<G: Gate>(
+/// Makes the write, which has what it needs in hand. Puts all of it back.
+pub fn write_with<G: Gate>(
     machine: &Machine,
     pass: &mut Pass,
     gate: &G,
