@@ -9,7 +9,6 @@ mod access;
 mod free;
 mod hand;
 mod reads;
-mod taking;
 mod tries;
 mod writes;
 
