@@ -1,4 +1,4 @@
-use Rattle.std.proofs.Common.{◌≡◌, ◌×◌, arith, ap, refl, ◌∙◌, ◌+◌}
+use Rattle.std.proofs.Common.{arith, ap, refl, ◌∙◌, ◌+◌}
 use Rattle.its_plain.specs.Parts.{pend}
 use Rattle.lpi_pending.specs.InHand.{pend_state}
 use Rattle.lpi_pending.specs.InHand.{RedistParts, HasLpisOfPend}
@@ -81,4 +81,4 @@ pub returns-clause-result : goal.returns-clause-result
 returns-clause-result c = let l = c.loop-next in let s = setup c.args.machine.now in
     let all = all_taken pend_held (HasLpisOfPend s.start.layout.shape) s c.args.set l.next c.vcpus-vcpus.result l.redists.pends (view c.args.pass.now).held
     (view l.pass).held c.vcpus-vcpus.ensures.vcpus l.invariant.within c.in_default.ensures l.invariant.taken in
-    (l.invariant.takes, (all.0, all.1))
+    (l.invariant.takes, all.0, all.1)

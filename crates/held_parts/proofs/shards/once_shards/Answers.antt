@@ -3,7 +3,7 @@ use Rattle.std.proofs.Common.{length, rules, arith, ap, sym, ◌∙◌, refl, �
 use Rattle.its_types.specs.declared.machine.Part.TheVariants as part
 use Rattle.its_steps.specs.Contents.{Shard}
 use Rattle.its_steps.specs.World.{View}
-use Rattle.its_turns.specs.Machines.{view}
+use Rattle.its_turns.specs.Machines.{setup, view}
 use Rattle.held_parts.specs.Shards.{IsShardOf}
 use Rattle.held_parts.proofs.Once.{once_first, once_one, once_then, got_held, busy_one, busy_then}
 use Rattle.held_parts.proofs.ShardLoops.{none_taken, is_free, one_taken, all_taken}
@@ -48,4 +48,6 @@ loop-number-preserved c = let l = c.loop-number in let t = c.try_take_shard in l
 }
 
 pub returns-clause-result : goal.returns-clause-result
-returns-clause-result c = let l = c.loop-number in (l.invariant.takes, (l.invariant.taken.held, l.invariant.taken.hand))
+returns-clause-result c = let l = c.loop-number in let s = setup c.args.machine.now in
+    let all = all_taken c.args.its l.number s.shards l.shards (view c.args.pass.now).held (view l.pass).held (search rules) l.invariant.taken in
+    (l.invariant.takes, all.0, all.1)

@@ -37,11 +37,9 @@ returns-in-Ok-once_redists-clause-result c =
     let redists = c.once_redists.new.redists in let lent = c.deref_mut.ensures.value in (
       once_then IsNoShard v x y (once_one IsNoShard v x part.Mem (Mem m.memory m.track) tt c.in-Ok.ensures.result.0)
           (once_wider (IsRedistIn a.all a.all) IsNoShard (both_no_shard a.all a.all) x y then.0),
-      (
-        then.1.0 ∙ (ap (redists_held redists n) (got_held v x part.Mem (Mem m.memory m.track) c.in-Ok.ensures.result.0)
-            ∙ ap (λ (k : GuestMemory). redists_held redists n (out part.Mem (Mem k.memory k.track) ∷ v.held)) (sym lent)),
-        then.1.1,
-      ),
+      then.1 ∙ (ap (redists_held redists n) (got_held v x part.Mem (Mem m.memory m.track) c.in-Ok.ensures.result.0)
+          ∙ ap (λ (k : GuestMemory). redists_held redists n (out part.Mem (Mem k.memory k.track) ∷ v.held)) (sym lent)),
+      then.2,
     )
 
 pub put-requires-clause-owed : goal.put-requires-clause-owed

@@ -39,11 +39,11 @@ returns-in-Ok-once_memory-clause-result g c =
     let takes = once_then IsNoShard v x y maps.0 rest.0 in
     let all : (k : ℕ) → is_in set k ≡ nat_lt k (vcpu_count s) = λ k. c.all_of.ensures k ∙ ap (nat_lt k) c.vcpus.ensures.vcpus in (
       takes_whole s v y z w c.look.result c.requires.of.1 (once_takes IsNoShard v y takes)
-          (rest.1.0 ∙ ap (λ (l : List Held). redists_held memory.redists n (out part.Mem (Mem memory.memory memory.track) ∷ l)) maps.1)
+          (rest.1 ∙ ap (λ (l : List Held). redists_held memory.redists n (out part.Mem (Mem memory.memory memory.track) ∷ l)) maps.1)
           c.look.ensures.looks c.look.ensures.later
-          (is_whole s w (has_stamps m) (set_is_all (HasLpisOfConf s.start.layout.shape) s set all memory.redists.confs rest.1.1.confs)
-          (set_is_all (HasLpisOfPend s.start.layout.shape) s set all memory.redists.pends rest.1.1.pends)
-          c.in-Ok.ensures.all rest.1.1.places.confs rest.1.1.places.pends),
+          (is_whole s w (has_stamps m) (set_is_all (HasLpisOfConf s.start.layout.shape) s set all memory.redists.confs rest.2.confs)
+          (set_is_all (HasLpisOfPend s.start.layout.shape) s set all memory.redists.pends rest.2.pends)
+          c.in-Ok.ensures.all rest.2.places.confs rest.2.places.pends),
       subst (LostNone v) (sym c.look.ensures.looks.same) (none_lost IsNoShard v y takes),
     )
 
