@@ -1,12 +1,12 @@
 -- Parts of redistributors below a number, put home where a higher one was another's.
-use Rattle.std.proofs.Common.{◌≡◌, ℕ, ◌<◌, ◌≤◌, ◌&&◌, Bool, true, false, nat_lt, List, Option, Some, None, refl, ap, sym, ◌∙◌, inl, inr, arith}
+use Rattle.std.proofs.Common.{◌≡◌, ℕ, ◌≤◌, ◌&&◌, Bool, true, false, nat_lt, List, Option, refl, ap, sym, ◌∙◌, inl, inr, arith}
 use Rattle.std.proofs.lemmas.Bool.{cases_lt, le-ltb, lt-ltb}
 use Rattle.std.specs.Prelude.{is_some}
 use Rattle.its_steps.specs.Contents.{Held}
 use Rattle.its_steps.specs.Parts.{Setup, vcpu_count}
 use Rattle.owned_parts.specs.RedistSets.{is_in}
 use Rattle.owned_parts.specs.declared.redist_set.RedistSet.{RedistSet}
-use Rattle.held_parts.specs.Redists.{at_place, AreBelow}
+use Rattle.held_parts.specs.Redists.{AreBelow}
 use Rattle.held_parts.proofs.RedistLoops.{AreTaken}
 
 -- a machine with so many virtual processors

@@ -1,5 +1,5 @@
 -- Both parts of redistributors, the configurations first.
-use Rattle.std.proofs.Common.{◌≡◌, ℕ, List, ◌∷◌, inl, inr}
+use Rattle.std.proofs.Common.{ℕ, List, ◌∷◌, inl, inr}
 use Rattle.its_types.specs.declared.machine.Part.{Part}
 use Rattle.its_types.specs.declared.machine.Part.TheVariants as part
 use Rattle.its_plain.specs.Parts.{conf}

@@ -2,8 +2,8 @@
 use Rattle.std.proofs.Common.{◌≡◌, List, [], ◌∷◌, ◌++◌, refl, ap, sym, ◌∙◌, subst, arith, append_assoc}
 use Rattle.std.specs.List.{AllByRecursion}
 use Rattle.its_types.specs.declared.machine.Part.{Part}
-use Rattle.its_steps.specs.Contents.{Content, Held}
-use Rattle.its_steps.specs.World.{View, Tries, took, out, lost_to}
+use Rattle.its_steps.specs.Contents.{Content}
+use Rattle.its_steps.specs.World.{View, Tries, out, lost_to}
 use Rattle.its_turns.specs.Calls.{got_all}
 use Rattle.its_turns.specs.Steps.{TakesPart, IsBusy}
 use Rattle.its_turns.specs.Told.{IsLone}

@@ -1,5 +1,5 @@
 -- What a pass knows that tried the turns of some parts once, in their order.
-use Rattle.std.specs.Prelude.{◌≡◌, ◌≢◌, List, length}
+use Rattle.std.specs.Prelude.{◌≡◌, ◌≢◌, List}
 use Rattle.std.specs.List.{AllByRecursion}
 use Rattle.its_types.specs.declared.machine.Part.{Part}
 use Rattle.its_steps.specs.World.{View, lost_to}

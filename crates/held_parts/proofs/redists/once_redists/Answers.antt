@@ -1,9 +1,8 @@
-use Rattle.std.proofs.Common.{◌≡◌, List, Option, length, ap, sym, ◌∙◌, subst}
+use Rattle.std.proofs.Common.{List, Option, length, ap, sym, ◌∙◌, subst}
 use Rattle.lpi_config.specs.Conf.{Conf as ConfInHand}
-use Rattle.its_steps.specs.Contents.{Held}
 use Rattle.its_steps.specs.Parts.{vcpu_count}
 use Rattle.its_turns.specs.Machines.{setup, view}
-use Rattle.held_parts.specs.Redists.{conf_held, row_of, confs_held, pends_held, HoldsNoPend, IsConfIn, IsPendIn, IsRedistIn}
+use Rattle.held_parts.specs.Redists.{conf_held, row_of, pends_held, HoldsNoPend, IsConfIn, IsPendIn, IsRedistIn}
 use Rattle.held_parts.specs.Rows.{in_row}
 use Rattle.held_parts.proofs.Once.{once_wider, once_then, busy_wider, busy_then, busy_held}
 use Rattle.held_parts.proofs.Both.{conf_of_both, pend_of_both, confs_no_pend}

@@ -1,11 +1,8 @@
-use Rattle.std.proofs.Common.{◌∷◌, List, Option, refl, ap, sym, ◌∙◌}
+use Rattle.std.proofs.Common.{◌∷◌, List, ap, ◌∙◌}
 use Rattle.std.specs.Option.{option_map}
-use Rattle.std.specs.Prelude.{Box}
-use Rattle.std.specs.Global.{Global}
 use Rattle.its_types.specs.declared.machine.Part.TheVariants as part
 use Rattle.owned_parts.specs.Owned.{translator_of}
 use Rattle.its_steps.specs.Contents.{Held, Maps}
-use Rattle.its_steps.specs.World.{View}
 use Rattle.its_turns.specs.Machines.{view}
 use Rattle.its_turns.specs.Contents.{held_before}
 use Rattle.held_parts.specs.Taking.{holding}

@@ -1,12 +1,12 @@
-use Rattle.std.proofs.Common.{◌≡◌, ◌∷◌, List, length, refl, ap, sym, ◌∙◌, subst, inl, inr}
+use Rattle.std.proofs.Common.{◌∷◌, List, refl, ap, sym, ◌∙◌, subst}
 use Rattle.its_types.specs.declared.machine.Part.TheVariants as part
 use Rattle.its_steps.specs.Contents.{Held, Mem}
 use Rattle.its_steps.specs.Parts.{vcpu_count}
-use Rattle.its_steps.specs.World.{View, out}
+use Rattle.its_steps.specs.World.{out}
 use Rattle.its_turns.specs.Contents.{held_before}
 use Rattle.its_turns.specs.Machines.{setup, view}
 use Rattle.its_turns.specs.declared.value.GuestMemory.{GuestMemory}
-use Rattle.held_parts.specs.Redists.{redists_held, AreNoRedists, HoldsNoConf, HoldsNoPend, IsRedistIn}
+use Rattle.held_parts.specs.Redists.{redists_held, HoldsNoConf, HoldsNoPend, IsRedistIn}
 use Rattle.held_parts.specs.Taking.{holding}
 use Rattle.held_parts.specs.Wholes.{IsNoShard}
 use Rattle.held_parts.proofs.Both.{both_no_shard, mem_no_conf, mem_no_pend, empty_places}

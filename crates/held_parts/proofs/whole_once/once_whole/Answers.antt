@@ -1,4 +1,4 @@
-use Rattle.std.proofs.Common.{◌≡◌, ℕ, ◌∷◌, [], List, ap, sym, ◌∙◌, subst, nat_lt}
+use Rattle.std.proofs.Common.{◌≡◌, ℕ, ◌∷◌, List, ap, sym, ◌∙◌, subst, nat_lt}
 use Rattle.std.specs.Option.{option_map}
 use Rattle.lpi_pending.specs.InHand.{HasLpisOfConf, HasLpisOfPend}
 use Rattle.owned_parts.specs.RedistSets.{is_in}
