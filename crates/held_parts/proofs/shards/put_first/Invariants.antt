@@ -4,7 +4,7 @@ use Rattle.its_turns.specs.Machines.{view, IsOf}
 use Rattle.held_parts.specs.Shards.{shards_held}
 use Rattle.held_parts.specs.Taking.{holding}
 use Rattle.held_parts.proofs.ShardLoops.{AreLeft}
-use Rattle.held_parts.proofs.shards.put_shards.Given as goal
+use Rattle.held_parts.proofs.shards.put_first.Given as goal
 
 abbrev pub invariant-loop-k : goal.invariant-loop-k
 invariant-loop-k l = record {

@@ -10,29 +10,31 @@ use Rattle.its_turns.specs.Machines.{setup, view}
 use Rattle.its_turns.specs.Told.{released}
 use Rattle.held_parts.specs.Redists.{pend_held, pends_held}
 use Rattle.held_parts.specs.Taking.{holding}
+use Rattle.held_parts.proofs.Below.{sized}
 use Rattle.held_parts.proofs.RedistLoops.{all_left, all_home, is_in_hand, none_before, highest_first, highest_left}
-use Rattle.held_parts.proofs.pends.put_pends.Goals as goal
+use Rattle.held_parts.proofs.pends.put_first_pends.Goals as goal
 
 pub loop-vcpu-init : goal.loop-vcpu-init
-loop-vcpu-init c = let s = setup c.args.machine.now in let are = c.vcpus-end.ensures.vcpus in
+loop-vcpu-init c = let s = sized c.args.count (setup c.args.machine.now) in
     record {
       of = c.requires.of;
-      home = λ before is. ap (λ (h : List Held). holding (view c.args.pass.now) h) (is ∙ ap (λ n. pends_held c.args.redists.now n before) (sym are));
-      within = omega (arith, are);
-      left = all_left pend_held (HasLpisOfPend s.start.layout.shape) s c.args.set c.vcpus-end.result c.args.redists.now.pends are c.requires.hand;
+      home = λ before is. ap (λ (h : List Held). holding (view c.args.pass.now) h) is;
+      within = c.requires.count;
+      below = omega arith;
+      left = all_left pend_held (HasLpisOfPend s.start.layout.shape) s c.args.set c.args.count c.args.redists.now.pends refl c.requires.hand;
       room = refl;
       confs = refl;
     }
 
 pub take_pend-pend-requires : goal.take_pend-pend-requires
-take_pend-pend-requires c = let s = setup c.args.machine.now in let l = c.loop-vcpu in let vcpu = c.in-Some.vcpu in let is = c.in-Some.ensures in
+take_pend-pend-requires c = let s = sized c.args.count (setup c.args.machine.now) in let l = c.loop-vcpu in let vcpu = c.in-Some.vcpu in let is = c.in-Some.ensures in
     ap (λ (o : Option PendInHand). is_some o) (l.invariant.left.below vcpu is.below)
     ∙ is_in_hand pend_held (HasLpisOfPend s.start.layout.shape) s c.args.set c.args.redists.now.pends vcpu c.requires.hand is.has
-    (omega (arith, is.below, l.invariant.within))
+    (omega (arith, is.below, l.invariant.below))
 
 pub put-requires-clause-owed : goal.put-requires-clause-owed
 put-requires-clause-owed c =
-    let s = setup c.args.machine.now in let old = c.args.redists.now in let before = c.requires.held.0 in let l = c.loop-vcpu in
+    let s = sized c.args.count (setup c.args.machine.now) in let old = c.args.redists.now in let before = c.requires.held.0 in let l = c.loop-vcpu in
     let vcpu = c.in-Some.vcpu in let is = c.in-Some.ensures in let r = c.take_pend-pend.result.value in
     record {
       content = Pend (pend_state r);
@@ -45,7 +47,7 @@ put-requires-clause-owed c =
 
 pub loop-vcpu-preserved : goal.loop-vcpu-preserved
 loop-vcpu-preserved c =
-    let s = setup c.args.machine.now in let l = c.loop-vcpu in let old = c.args.redists.now in
+    let s = sized c.args.count (setup c.args.machine.now) in let l = c.loop-vcpu in let old = c.args.redists.now in
     let vcpu = c.in-Some.vcpu in let is = c.in-Some.ensures in let r = c.take_pend-pend.result.value in
     record {
       of = c.put.ensures.of;
@@ -54,6 +56,7 @@ loop-vcpu-preserved c =
           (highest_first pend_held (HasLpisOfPend s.start.layout.shape) s c.args.set old.pends l.end vcpu c.requires.hand is.below is.none before r
           (sym (l.invariant.left.below vcpu is.below) ∙ c.take_pend-pend.ensures.value)));
       within = omega (arith, is.below, l.invariant.within);
+      below = omega (arith, is.below, l.invariant.below);
       left = rw (c.take_pend-pend.ensures.taken) (highest_left pend_held (HasLpisOfPend s.start.layout.shape) s c.args.set old.pends l.end vcpu
           c.requires.hand is.below is.none l.redists.pends l.invariant.left);
       room = c.take_pend-pend.ensures.room ∙ l.invariant.room;
@@ -61,11 +64,11 @@ loop-vcpu-preserved c =
     }
 
 pub returns-clause-empty : goal.returns-clause-empty
-returns-clause-empty c = let s = setup c.args.machine.now in let l = c.loop-vcpu in
+returns-clause-empty c = let s = sized c.args.count (setup c.args.machine.now) in let l = c.loop-vcpu in
     all_home pend_held (HasLpisOfPend s.start.layout.shape) s c.args.set c.args.redists.now.pends l.redists.pends l.end c.requires.hand c.in_default.ensures
     l.invariant.left
 
 pub returns-clause-home : goal.returns-clause-home
-returns-clause-home c = let s = setup c.args.machine.now in let l = c.loop-vcpu in λ before e. l.invariant.home before e
+returns-clause-home c = let s = sized c.args.count (setup c.args.machine.now) in let l = c.loop-vcpu in λ before e. l.invariant.home before e
     ∙ ap (λ (h : List Held). holding (view c.args.pass.now) h)
     (none_before pend_held (HasLpisOfPend s.start.layout.shape) s c.args.set c.args.redists.now.pends before l.end c.requires.hand c.in_default.ensures)
