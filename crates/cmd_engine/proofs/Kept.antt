@@ -1,5 +1,5 @@
 -- What is in hand after turns that were tried once.
-use Rattle.std.proofs.Common.{◌≡◌, ℕ, List, Option, Some, None, refl, ap, sym, ◌∙◌, subst}
+use Rattle.std.proofs.Common.{◌≡◌, ℕ, List, Option, Some, None, true, refl, ap, sym, ◌∙◌, subst}
 use Rattle.std.specs.Prelude.{is_some}
 use Rattle.its_types.specs.declared.machine.Part.{Part}
 use Rattle.its_types.specs.declared.machine.Part.TheVariants as part
@@ -8,7 +8,7 @@ use Rattle.its_steps.specs.World.{View}
 use Rattle.owned_parts.specs.declared.redist_set.RedistSet.{RedistSet}
 use Rattle.owned_parts.specs.Owned.{translator_of}
 use Rattle.held_parts.specs.Shards.{HoldsNoShard}
-use Rattle.held_parts.specs.Redists.{AreNone, AreWanted, AreNoConfs, AreNoPends, IsRedistIn}
+use Rattle.held_parts.specs.Redists.{AreNone, AreWanted, AreNoConfs, AreNoPends, AreNoRedists, HavePlaces, IsRedistIn}
 use Rattle.cmd_engine.specs.Cached.{cached_held, AreWhole}
 use Rattle.cmd_engine.specs.Hands.{Memory, redists_of, with_redists, base_held, HasRoom, HasInHand, IsBase, IsOwn, IsOfStep}
 use Rattle.cmd_engine.specs.declared.cached.Cached.{Cached}
@@ -56,6 +56,18 @@ shards_in_hand s v x h c has own nothing held whole =
       pends = has.pends;
       room = has.room;
     }
+
+-- with memory alone its places are empty
+pub no_redists : (s : Setup) (v : View) (h : Hands) → HasInHand s v h → IsBase h → AreNoRedists s (redists_of h.memory)
+no_redists s v h has base = in_memory h.memory base.memory base.bare.confs base.bare.pends has.room
+  where
+    in_memory : (m : Memory) → is_some m ≡ true → AreNoConfs (redists_of m) → AreNoPends (redists_of m) → HasRoom s m → AreNoRedists s (redists_of m)
+    in_memory None some confs pends room = absurd cc
+    in_memory (Some b) some confs pends room = record { confs = confs; pends = pends; places = record { confs = room.0; pends = room.1 } }
+
+pub places_room : (s : Setup) (m : Memory) → HavePlaces s (redists_of m) → HasRoom s m
+places_room s None places = tt
+places_room s (Some b) places = (places.confs, places.pends)
 
 -- none of a set is in hand, before and after
 still_wanted : {T : Type 0} (has_lpis : T → Type 0) (s : Setup) (set : RedistSet) (old new : List (Option T)) → AreNone old → AreNone new

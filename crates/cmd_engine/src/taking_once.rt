@@ -1,25 +1,29 @@
 //! What a call needs besides its translator's maps and memory, where it waits for nobody.
-ghost use Rattle.std.specs.Prelude.{◌≡◌, ◌<◌, IfOk, MatchResult};
+ghost use Rattle.std.specs.Prelude.{◌≡◌, ◌<◌, true, is_some, IfOk, MatchResult};
 ghost use Rattle.its_types.specs.declared.machine.Part.TheVariants as part;
 ghost use Rattle.its_steps.specs.Contents as content;
 ghost use Rattle.its_steps.specs.Endings.{ending_in, Pair, All};
-ghost use Rattle.its_steps.specs.Parts.{translator_count};
+ghost use Rattle.its_steps.specs.Parts.{translator_count, vcpu_count};
 ghost use Rattle.owned_parts.specs.Owned.{translator_of};
 ghost use Rattle.its_turns.specs.Machines.{setup, view, IsOf};
 ghost use Rattle.its_turns.specs.Told.{HasStood};
+ghost use Rattle.held_parts.specs.Once.{TakesAtOnce, FindsBusy};
+ghost use Rattle.held_parts.specs.Redists.{AreNoRedists, AreRedistsOf};
+ghost use Rattle.held_parts.specs.Redists.{HoldsNoConf, HoldsNoPend, IsRedistIn};
 ghost use Rattle.held_parts.specs.Shards.{HoldsNoShard};
 ghost use Rattle.cmd_engine.specs.Cached.{ending_as, ending_by};
 ghost use Rattle.cmd_engine.specs.Hands.{HasInHand, HasNeeded, IsBase, IsOfStep, IsSameButNeeded};
+ghost use Rattle.cmd_engine.specs.Hands.{redists_held, redists_of, with_redists};
 ghost use Rattle.cmd_engine.specs.Tries.{GetsNeeded, GetsShards, GivesUp, LacksShards};
 ghost use Rattle.cmd_engine.specs.declared.cached.Cached.TheVariants as shards;
 
 use crate::cached::Cached;
 use crate::endings::{Ending, ending_of};
 use crate::hands::Hands;
-use cmd_exec::needs;
+use cmd_exec::{Needed, needs};
 use held_parts::{Shards, once_redists, once_shards};
 use its_command::Command;
-use its_turns::{Busy, Machine, Pass, look, try_take_shard};
+use its_turns::{Busy, GuestMemory, Machine, Pass, look, try_take_shard};
 use its_types::{DeviceId, EventId};
 
 /// Tries what a command needs: the shards that it may change, then configurations, then what is
@@ -57,16 +61,43 @@ pub(crate) fn once_needed(
         Ok(()) => {}
         Err(busy) => return Err(busy),
     }
-    let Some(memory) = &mut hands.memory else {
-        unreachable!();
-    };
-    let redists = &mut memory.redists;
-    match once_redists(machine, pass, needed.confs, needed.pends, redists) {
+    match once_parts(machine, pass, needed, &mut hands.memory) {
         Ok(()) => {
             hands.needed = needed;
             Ok(())
         }
         Err(busy) => Err(busy),
+    }
+}
+
+// The parts of redistributors, with memory, in whose places they are.
+fn once_parts(
+    machine: &Machine,
+    pass: &mut Pass,
+    needed: Needed,
+    memory: &mut Option<Box<GuestMemory>>,
+) -> Result<(), Busy>
+    requires of { IsOf machine.now pass.old }
+    requires some { is_some memory.old ≡ true }
+    requires empty { AreNoRedists (setup machine.now) (redists_of memory.old) }
+    requires no_conf { HoldsNoConf (view pass.old).held }
+    requires no_pend { HoldsNoPend (view pass.old).held }
+    ensures of { IsOf machine.now pass.new }
+    ensures same { memory.new ≡ with_redists memory.old (redists_of memory.new) }
+    ensures result { MatchResult result
+        (λ _. TakesAtOnce (IsRedistIn needed.confs needed.pends) (view pass.old) (view pass.new) ×
+        ((view pass.new).held ≡ redists_held (vcpu_count (setup machine.now))
+        (redists_of memory.new) (view pass.old).held) ×
+        AreRedistsOf (setup machine.now) needed.confs needed.pends (redists_of memory.new))
+        (λ b. FindsBusy (IsRedistIn needed.confs needed.pends) (view pass.old) b (view pass.new)
+        × AreNoRedists (setup machine.now) (redists_of memory.new)) }
+{
+    match memory {
+        Some(memory) => {
+            let redists = &mut memory.redists;
+            once_redists(machine, pass, needed.confs, needed.pends, redists)
+        }
+        None => unreachable!(),
     }
 }
 
