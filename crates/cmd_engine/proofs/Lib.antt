@@ -8,3 +8,5 @@ pub mod Carrying
 pub mod Unmet
 pub mod Written
 pub mod Getting
+pub mod Trying
+pub mod Kept
