@@ -1,4 +1,5 @@
 pub mod Tracks
+pub mod Untried
 pub mod InState
 pub mod Held
 pub mod Marks

@@ -22,7 +22,7 @@ use Rattle.held_parts.specs.Taking.{Goes, holding}
 use Rattle.held_parts.proofs.Going.{going_first, going_then, going_home, going_stays, goes_wider}
 use Rattle.held_parts.proofs.Once.{all_both, all_wider, both_got, busy_one}
 use Rattle.cmd_engine.specs.Telling.{Comes}
-use Rattle.cmd_engine.specs.Tries.{GoesAtOnce, GivesUp, GetsShards, ComesOnce, TriesOnce, WasMissed, tried_of}
+use Rattle.cmd_engine.specs.Tries.{GoesAtOnce, GivesUp, GetsShards, GotAll, ComesOnce, TriesOnce, WasMissed, tried_of}
 use Rattle.cmd_engine.specs.Hands.{IsOfTranslator}
 use Rattle.cmd_engine.specs.declared.cached.Cached.{Cached}
 use Rattle.cmd_engine.specs.declared.cached.Cached.TheVariants as cached
@@ -96,6 +96,10 @@ module _ (P : Part → Type 0) where
         still = all.still;
       }
 
+  -- and what follows tries none
+  pub at_once_got : (v w x : View) → GoesAtOnce P v w → x.tries ≡ w.tries → GotAll P v x
+  at_once_got v w x g same = record { got = g.got; only = g.only; tries = same ∙ g.on.tries }
+
   pub takes_goes : (v w : View) → TakesAtOnce P v w → GoesAtOnce P v w
   takes_goes v w t = record {
     got = t.got;
@@ -165,20 +169,23 @@ module _ (P : Part → Type 0) where
 
   pub once_home : {T : Type 0} (v w x : View) (c : Call) (reply : T → Reply) (r : Result (Result (Placed T) Missed) Busy) (left : List Held)
       → ComesOnce P v c reply w r → x ≡ holding w left → ComesOnce P v c reply x r
-  once_home v w x c reply (Ok r) left came e = came_home P v w x c reply r left came e
+  once_home v w x c reply (Ok r) left came e = (
+    came_home P v w x c reply r left came.0 e,
+    record { got = came.1.got; only = came.1.only; tries = ap (λ (y : View). y.tries) e ∙ came.1.tries },
+  )
   once_home v w x c reply (Err b) left came e = gave_home v w x b left came e
 
   module _ {T : Type 0} (v w : View) (bare : v.held ≡ []) (home : w.held ≡ []) (c : Call) (reply : T → Reply) where
-    was_missed : (m : Missed) → Comes {T = T} P v c reply w (Err m) → WasMissed P v c m w
-    was_missed m came = record { stays = going_stays P v w came.0 (home ∙ sym bare); got = came.0.got; why = came.1 }
+    was_missed : (m : Missed) → Comes {T = T} P v c reply w (Err m) → GotAll P v w → WasMissed P v c m w
+    was_missed m came got = record { stays = going_stays P v w came.0 (home ∙ sym bare); got = got; why = came.1 }
 
     -- is answered so
     pub tries_once : (r : Result (Result (Placed T) Missed) Busy) → ComesOnce P v c reply w r → TriesOnce P v c reply w (tried_of r)
-    tries_once (Ok (Ok p)) came = asks_made P v v w bare (going_first P v) c reply home p came
-    tries_once (Ok (Err missed.Spent)) came = was_missed missed.Spent came
-    tries_once (Ok (Err missed.NoMemory)) came = was_missed missed.NoMemory came
-    tries_once (Ok (Err (missed.Raced r))) came = was_missed (missed.Raced r) came
-    tries_once (Ok (Err missed.Late)) came = was_missed missed.Late came
+    tries_once (Ok (Ok p)) came = ((asks_made P v v w bare (going_first P v) c reply home p came.0).0, came.1)
+    tries_once (Ok (Err missed.Spent)) came = was_missed missed.Spent came.0 came.1
+    tries_once (Ok (Err missed.NoMemory)) came = was_missed missed.NoMemory came.0 came.1
+    tries_once (Ok (Err (missed.Raced r))) came = was_missed (missed.Raced r) came.0 came.1
+    tries_once (Ok (Err missed.Late)) came = was_missed missed.Late came.0 came.1
     tries_once (Err b) came = record {
       part = came.part;
       got = came.got;

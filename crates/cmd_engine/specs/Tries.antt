@@ -9,7 +9,7 @@ use Rattle.its_steps.specs.Endings.{Ending}
 use Rattle.its_steps.specs.Parts.{Setup}
 use Rattle.its_steps.specs.Renewal.{its_of}
 use Rattle.its_steps.specs.World.{View, lost_to}
-use Rattle.its_turns.specs.Calls.{Stays, GotOnly, GoesOn, WasBusy, got_all}
+use Rattle.its_turns.specs.Calls.{Stays, GoesOn, WasBusy, got_all}
 use Rattle.its_turns.specs.Told.{IsLone}
 use Rattle.its_turns.specs.declared.turns.Busy.{Busy}
 use Rattle.held_parts.specs.Taking.{Goes}
@@ -45,6 +45,12 @@ pub record GivesUp (P : Part → Type 0) (v : View) (b : Busy) (w : View) : Type
   pub another : b.holder ≢ v.number
   pub out : ¬ IsLone v
 
+-- each turn that it tried it got, the last one first
+pub record GotAll (P : Part → Type 0) (v w : View) : Type 0 where
+  pub got : List Part
+  pub only : AllByRecursion P got
+  pub tries : w.tries ≡ got_all got v.tries
+
 -- ---- what is taken
 
 -- the shards that a call may change which ends this are in hand
@@ -70,7 +76,7 @@ pub record GetsNeeded (h : Hands) (v w : View) : Type 0 where
 
 -- it was given up before it could be made, or it comes to this
 abbrev pub ComesOnce : {T : Type 0} → (Part → Type 0) → View → Call → (T → Reply) → View → Result (Result (Placed T) Missed) Busy → Type 0
-ComesOnce P v c reply w (Ok r) = Comes P v c reply w r
+ComesOnce P v c reply w (Ok r) = Comes P v c reply w r × GotAll P v w
 ComesOnce P v c reply w (Err b) = GivesUp P v b w
 
 -- whatever it began with
@@ -93,15 +99,15 @@ pub record WasBusyIn (P : Part → Type 0) (v : View) (b : Busy) (w : View) : Ty
   pub only : AllByRecursion P got
   pub busy : WasBusy v got b w
 
--- it had what it needs, and was not made: the pass is as it was, but that it may have seen more and got turns and given them back
+-- it had what it needs, and was not made: the pass is as it was, but that it may have seen more, and got turns and gave them back
 pub record WasMissed (P : Part → Type 0) (v : View) (c : Call) (m : Missed) (w : View) : Type 0 where
   pub stays : Stays v w
-  pub got : GotOnly P v w
+  pub got : GotAll P v w
   pub why : IsWhyWith (ReadLow v (its_of c) w) v c m w
 
 -- It was made at its place, or not, and then no part is held and nothing was made
 abbrev pub TriesOnce : {T : Type 0} → (Part → Type 0) → View → Call → (T → Reply) → View → Tried T → Type 0
-TriesOnce P v c reply w (tried.Done p) = EndsAs v c (reply p.reply) p.place w × GotOnly P v w
+TriesOnce P v c reply w (tried.Done p) = EndsAs v c (reply p.reply) p.place w × GotAll P v w
 TriesOnce P v c reply w (tried.Busy b) = WasBusyIn P v b w
 TriesOnce P v c reply w (tried.Raced r) = WasMissed P v c (missed.Raced r) w
 TriesOnce P v c reply w tried.Late = WasMissed P v c missed.Late w

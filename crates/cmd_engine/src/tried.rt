@@ -15,8 +15,8 @@ pub enum Tried<T> {
     Busy(Busy),
     /// It was not: another call was made first.
     Raced(Raced),
-    /// It was not: the translator's stamp, which was to rise, has become the last one meanwhile. The
-    /// next try takes every shard.
+    /// It was not: the translator's stamp, which was to rise, has become the last one meanwhile.
+    /// The next try takes every shard.
     Late,
     /// It was not: all places are used.
     Spent,

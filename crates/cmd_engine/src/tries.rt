@@ -29,8 +29,9 @@ use its_turns::{Busy, GuestMemory, Machine, Pass, Value, put, try_take_maps, try
 use its_types::{Gate, Part, Placed, Point};
 use owned_parts::Translator;
 
-/// A translator takes its next command, as by `step_at`, but tries each turn once, in the order in
-/// which `step_at` waits for them. Where no step is made, every part is as it was.
+/// A translator takes its next command (IHI 0069, section 5.3), as by `step_at`, but tries each
+/// turn once, in the order in which `step_at` waits for them. Where no step is made, every part is
+/// as it was. Takes the memory that `step_at` takes.
 pub fn try_step_at<G: Gate>(
     machine: &Machine,
     pass: &mut Pass,
@@ -156,8 +157,9 @@ fn tried_with<G: Gate>(
     }
 }
 
-/// Writes `size` bytes, 4 or 8, at an offset of a translator's control frame, as by `write_at`, but
-/// tries each turn once. Where no write is made, every part is as it was. A write wants no memory.
+/// Writes `size` bytes, 4 or 8, at an offset of a translator's control frame (IHI 0069, section
+/// 12.19), as by `write_at`, but tries each turn once. Where no write is made, every part is as it
+/// was. Takes no memory.
 pub fn try_write_at<G: Gate>(
     machine: &Machine,
     pass: &mut Pass,
