@@ -102,6 +102,9 @@ void _exit(int status) {
 }
 """
 
+# So many requests one after another serve only to start threads, or aren't made at all.
+MOST_THAT_CHANGE_NOTHING = 80
+
 SAID = re.compile(r"stress-saving: checked (\d+) places, hits \d+(, made again 1)?\n\Z")
 
 
@@ -134,7 +137,7 @@ def main():
         if status != 0 or not whole or whole[2]:
             sys.exit(f"status {status}, {printed!r}")
         number = same = saves = unmade = 0
-        while same < 20:
+        while same < MOST_THAT_CHANGE_NOTHING:
             number += 1
             status, printed, before, after = run(program, library, number)
             said = SAID.match(printed)

@@ -7,7 +7,6 @@ use Rattle.its_types.specs.declared.machine.Part.TheVariants as part
 use Rattle.its_types.specs.declared.machine.Shape.{Shape}
 use Rattle.its_types.specs.declared.machine.Word.{Word}
 use Rattle.its_plain.specs.declared.layout.Layout.{Layout}
-use Rattle.lpi_config.specs.Conf.{Conf as ConfInHand}
 use Rattle.lpi_pending.specs.InHand.{RedistParts, AreEmpty, HasLpisOfConf, HasLpisOfPend}
 use Rattle.cmd_exec.specs.declared.needed.Needed.{Needed}
 use Rattle.owned_parts.specs.Owned.{translator_of}
@@ -39,14 +38,14 @@ use Rattle.cmd_engine.proofs.Held.{base_no_conf, base_no_pend, base_no_shard, ca
 
 -- ---- whose turns are got
 
-shard_is_own : (its : ℕ) (p : Part) → IsShardOf its p → IsOfTranslator its p
+pub shard_is_own : (its : ℕ) (p : Part) → IsShardOf its p → IsOfTranslator its p
 shard_is_own its (part.Shard i n) is = is
 shard_is_own its (part.Maps i) is = absurd is
 shard_is_own its part.Mem is = absurd is
 shard_is_own its (part.Conf v) is = absurd is
 shard_is_own its (part.Pend v) is = absurd is
 
-own_of_step : (its : ℕ) (p : Part) → IsOfTranslator its p → IsOfStep its p
+pub own_of_step : (its : ℕ) (p : Part) → IsOfTranslator its p → IsOfStep its p
 own_of_step its (part.Shard i n) is = is
 own_of_step its (part.Maps i) is = is
 own_of_step its part.Mem is = absurd is

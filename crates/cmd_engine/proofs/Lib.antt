@@ -1,4 +1,5 @@
 pub mod Tracks
+pub mod Untried
 pub mod InState
 pub mod Held
 pub mod Marks
@@ -8,3 +9,5 @@ pub mod Carrying
 pub mod Unmet
 pub mod Written
 pub mod Getting
+pub mod Trying
+pub mod Kept

@@ -39,6 +39,7 @@ pub(crate) fn make_command<G: Gate>(
     requires needed { HasNeeded (setup machine.now) command.now hands.old }
     ensures of { IsOf machine.now pass.new }
     ensures hands { HasInHand (setup machine.now) (view pass.new) hands.new }
+    ensures tries { (view pass.new).tries ≡ (view pass.old).tries }
     ensures comes { ComesFromShards hands.old.cached (IsOfStep hands.old.its) (view pass.old)
         (call.Step hands.old.its) reply.Step (view pass.new) result }
 {

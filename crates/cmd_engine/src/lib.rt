@@ -15,9 +15,14 @@ mod reads;
 mod steps;
 mod still;
 mod taking;
+mod taking_once;
+mod tried;
+mod tries;
 mod writes;
 mod writing;
 
 pub use reads::{read_at, read_reg, try_read_at, try_read_reg};
 pub use steps::{step, step_at};
+pub use tried::Tried;
+pub use tries::{try_step, try_step_at, try_write_at, try_write_reg};
 pub use writes::{write_at, write_reg};

@@ -29,6 +29,7 @@ pub(crate) fn make_still<G: Gate>(
     requires none { MeetsNone hands.now.translator.value.regs (windows_of hands.now.memory) said }
     ensures of { IsOf machine.now pass.new }
     ensures hands { HasInHand (setup machine.now) (view pass.new) hands.now }
+    ensures tries { (view pass.new).tries ≡ (view pass.old).tries }
     ensures comes { ComesFrom (IsOfStep hands.now.its) (view pass.old) (call.Step hands.now.its)
         reply.Step (view pass.new) result }
 {

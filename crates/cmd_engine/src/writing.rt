@@ -91,6 +91,7 @@ pub(crate) fn make_write<G: Gate>(
         ≡ write_ending write (translator_of hands.old.translator.value) }
     ensures of { IsOf machine.now pass.new }
     ensures hands { HasInHand (setup machine.now) (view pass.new) hands.new }
+    ensures tries { (view pass.new).tries ≡ (view pass.old).tries }
     ensures comes { ComesFromShards hands.old.cached (IsOfTranslator hands.old.its)
         (view pass.old) (write_call hands.old.its write) (λ _. reply.Ok) (view pass.new) result }
 {

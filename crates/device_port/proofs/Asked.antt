@@ -242,7 +242,7 @@ module _ (c : Call) (m : Message) (v : View) where
       }
 
   module _ (w : View) (stays : Stays v w) (asks : SignalAsks v m w) where
-    asks_more : (x : View) (more : List Part) → x.setup ≡ w.setup → SignalGot w m more x → x.tries.won ≡ more ++ w.tries.won → w.tries.lost ≤ x.tries.lost
+    pub asks_more : (x : View) (more : List Part) → x.setup ≡ w.setup → SignalGot w m more x → x.tries.won ≡ more ++ w.tries.won → w.tries.lost ≤ x.tries.lost
         → SignalAsks v m x
     asks_more x more same got won lost = record {
       got = more ++ asks.got;

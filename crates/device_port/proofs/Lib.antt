@@ -5,3 +5,5 @@ pub mod Mapped
 pub mod Sent
 pub mod Asked
 pub mod Doorbells
+pub mod Once
+pub mod Repeated

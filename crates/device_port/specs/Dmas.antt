@@ -1,11 +1,10 @@
 -- What a device's write by address is answered.
-use Rattle.std.specs.Prelude.{◌≡◌, ℕ, length, Result, Ok, Err}
+use Rattle.std.specs.Prelude.{◌≡◌, length, Result, Ok, Err}
 use Rattle.its_types.specs.declared.machine.Part.TheVariants as part
 use Rattle.its_types.specs.declared.machine.Placed.{Placed}
 use Rattle.its_plain.specs.declared.call.Call.{Call}
 use Rattle.its_plain.specs.declared.call.Reply.{Reply}
 use Rattle.its_plain.specs.declared.call.Reply.TheVariants as reply
-use Rattle.its_plain.specs.declared.call.Signal.{Signal}
 use Rattle.its_plain.specs.declared.call.Route.{Route}
 use Rattle.its_plain.specs.declared.call.Route.TheVariants as route
 use Rattle.its_steps.specs.World.{View}
@@ -13,7 +12,6 @@ use Rattle.its_steps.specs.declared.change.ShardChange.TheVariants.{Keep}
 use Rattle.its_turns.specs.Calls.{Stays, IsPlaced, Leaves, GotOnly}
 use Rattle.its_turns.specs.declared.attempts.NotMade.{NotMade}
 use Rattle.its_turns.specs.declared.attempts.NotMade.TheVariants.{Spent, NoMemory}
-use Rattle.its_turns.specs.declared.attempts.Spent.{Spent as AllUsed}
 use Rattle.device_port.specs.Messages.{message}
 use Rattle.device_port.specs.Signals.{SignalAsks, Sent}
 use Rattle.device_port.specs.declared.told.Dma.{Dma}
@@ -45,26 +43,3 @@ abbrev pub Dmas : View → Call → Route → View → Result (Placed Dma) NotMa
 Dmas v c to w (Ok p) = IsPlaced v c (reply_of p.reply) p.place w × Answers to p.reply w × Got v to w
 Dmas v c to w (Err Spent) = Stays v w × (length w.seen ≡ v.setup.limits.place_last) × Got v to w
 Dmas v c to w (Err NoMemory) = (to ≡ route.Poke) × Stays v w × Got v to w
-
--- ---- from what each kind answers
-
--- a call that needs no part: no turn is tried
-abbrev pub Tells : View → Call → Reply → View → Result ℕ AllUsed → Type 0
-Tells v c r w (Ok place) = IsPlaced v c r place w × Leaves Keep w × (w.tries ≡ v.tries)
-Tells v c r w (Err spent) = Stays v w × (length w.seen ≡ v.setup.limits.place_last) × (w.tries ≡ v.tries)
-
-abbrev pub message_told : Result (Placed Signal) AllUsed → Result (Placed Dma) NotMade
-message_told (Ok p) = Ok (record { place = p.place; reply = dma.Signal p.reply })
-message_told (Err spent) = Err Spent
-
-abbrev pub written : Reply → Dma
-written reply.Ok = dma.Ok
-written other = dma.Outside
-
-abbrev pub write_told : Result (Placed Reply) NotMade → Result (Placed Dma) NotMade
-write_told (Ok p) = Ok (record { place = p.place; reply = written p.reply })
-write_told (Err why) = Err why
-
-abbrev pub nothing_told : Result ℕ AllUsed → Dma → Result (Placed Dma) NotMade
-nothing_told (Ok place) answer = Ok (record { place = place; reply = answer })
-nothing_told (Err spent) answer = Err Spent

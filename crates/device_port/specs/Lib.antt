@@ -6,3 +6,4 @@ pub mod Hits
 pub mod ByMaps
 pub mod Routes
 pub mod Dmas
+pub mod Tries

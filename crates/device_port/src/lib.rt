@@ -12,9 +12,10 @@ mod home;
 mod laws;
 mod maps;
 mod message;
-mod nothing;
 mod signals;
 mod told;
+mod tried;
+mod tries;
 mod writes;
 
 pub use hits::{Now, try_signal, try_signal_at};
@@ -22,4 +23,5 @@ pub use laws::requesters_are_apart;
 pub use message::Message;
 pub use signals::{signal, signal_at, signal_once, signal_once_at};
 pub use told::Dma;
+pub use tries::try_dma;
 pub use writes::dma;

@@ -53,8 +53,8 @@ pub fn signal_once_at<G: Gate>(
     send_once(machine, pass, gate, &call, Message { its, dev, ev })
 }
 
-// Makes the call, which is this message.
-fn send_once<G: Gate>(
+/// Makes the call, which is this message. Tries each turn as `signal_once_at` does.
+pub fn send_once<G: Gate>(
     machine: &Machine,
     pass: &mut Pass,
     gate: &G,

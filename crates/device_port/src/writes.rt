@@ -1,19 +1,16 @@
-//! Devices' writes by address.
+//! Devices' writes by address that wait for the turns that they need.
 ghost use Rattle.std.specs.Prelude.{◌≡◌, []};
 ghost use Rattle.its_plain.specs.Doorbells.{dma_of, route_of};
 ghost use Rattle.its_turns.specs.Machines.{view, IsOf};
 ghost use Rattle.device_port.specs.Dmas.{Dmas};
 ghost use Rattle.device_port.specs.Routes.{AreDevices};
 
-use crate::message::Message;
-use crate::nothing::tell;
-use crate::signals::send;
-use crate::told::{Dma, message_told, nothing_told, write_told};
-use dma_routes::route;
-use guest_port::{Writer, write};
-use its_plain::{Bytes64, Call, Reply, Route};
-use its_turns::{Machine, NotMade, Pass};
+use crate::told::Dma;
+use crate::tries::try_dma;
+use its_plain::Bytes64;
+use its_turns::{Attempt, Machine, NotMade, Pass, give_way, pause};
 use its_types::{Addr, Gate, Placed};
+use std::alloc::AllocError;
 use std::sync::Wait;
 
 /// Writes 1 to 64 bytes at an address as the requester of this number, and waits for the turns that
@@ -41,28 +38,14 @@ pub fn dma<R: Wait, G: Gate>(
     ensures answer { Dmas (view pass.old) (dma_of machine.now.desc req addr bytes.now)
         (route_of machine.now.desc req addr.0 bytes.now) (view pass.new) result }
 {
-    let route = route(machine.desc(), req, addr, bytes);
-    let call = Call::Dma {
-        req,
-        addr,
-        bytes: *bytes,
-        route,
-    };
-    match route {
-        Route::Signal { its, dev, ev } => {
-            message_told(send(rt, machine, pass, gate, &call, Message { its, dev, ev }))
+    for _ in rt.forever() {
+        match try_dma(machine, pass, gate, req, addr, bytes) {
+            Ok(Attempt::Done(placed)) => return Ok(placed),
+            Ok(Attempt::Spent) => return Err(NotMade::Spent),
+            Ok(Attempt::Busy(_)) => give_way(),
+            Ok(Attempt::Raced(_)) => pause(),
+            Err(AllocError) => return Err(NotMade::NoMemory),
         }
-        Route::Poke => {
-            let writer = Writer::Requester(req);
-            write_told(write(rt, machine, pass, gate, writer, addr, bytes))
-        }
-        Route::NoRequester => nothing_told(
-            tell(rt, machine, pass, gate, &call, &Reply::NoRequester),
-            Dma::NoRequester,
-        ),
-        Route::Frame => nothing_told(
-            tell(rt, machine, pass, gate, &call, &Reply::Outside),
-            Dma::Outside,
-        ),
     }
+    unreachable!()
 }

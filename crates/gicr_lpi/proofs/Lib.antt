@@ -1,4 +1,5 @@
 pub mod Lows
 pub mod Alone
-pub mod Asked
-pub mod Needs
+pub mod Once
+pub mod Registers
+pub mod Repeated

@@ -5,23 +5,14 @@ use Rattle.its_plain.specs.declared.call.Reply.TheVariants as reply
 use Rattle.its_steps.specs.Parts.{Setup}
 use Rattle.its_steps.specs.World.{View}
 use Rattle.its_steps.specs.declared.change.ShardChange.TheVariants.{Keep}
-use Rattle.its_turns.specs.Calls.{Stays, IsPlaced, Leaves, GotOnly, StillAsks}
+use Rattle.its_turns.specs.Calls.{Stays, IsPlaced, Leaves, GotOnly}
 use Rattle.its_turns.specs.declared.attempts.NotMade.{NotMade}
 use Rattle.its_turns.specs.declared.attempts.NotMade.TheVariants as none
 use Rattle.lpi_pending.specs.Rooms.{is_enable}
 use Rattle.gicr_lpi.specs.Accesses.{IsOfWrite, WasAsked, write_call}
-use Rattle.gicr_lpi.specs.Asking.{AsksOnce}
 use Rattle.gicr_lpi.specs.declared.access.GicrAccess.{GicrAccess}
-use Rattle.gicr_lpi.specs.declared.writes.Unwritten.{Unwritten}
-use Rattle.gicr_lpi.specs.declared.writes.Unwritten.TheVariants as unwritten
 
--- tried once. Memory can only run out where the write asked to turn LPIs on
-abbrev pub WritesOnce : Setup → GicrAccess → View → View → Result (Placed (Unit {0})) Unwritten → Type 0
-WritesOnce s a v w (Ok x) = AsksOnce (IsOfWrite s a) v (write_call a) (λ (_ : Unit {0}). reply.Ok) w (Ok x)
-WritesOnce s a v w (Err (unwritten.Lost l)) = AsksOnce (IsOfWrite s a) v (write_call a) (λ (_ : Unit {0}). reply.Ok) w (Err l)
-WritesOnce s a v w (Err unwritten.NoMemory) = StillAsks (IsOfWrite s a) v w × WasAsked s a is_enable
-
--- and again until it was made
+-- tried again and again until it was made. Memory can only run out where the write asked to turn LPIs on
 abbrev pub Writes : Setup → GicrAccess → View → View → Result (Placed (Unit {0})) NotMade → Type 0
 Writes s a v w (Ok x) = IsPlaced v (write_call a) reply.Ok x.place w × Leaves Keep w × GotOnly (IsOfWrite s a) v w
 Writes s a v w (Err none.Spent) = Stays v w × (length w.seen ≡ v.setup.limits.place_last) × GotOnly (IsOfWrite s a) v w

@@ -6,10 +6,12 @@
 #![tactic(auto)]
 
 mod access;
+mod free;
 mod hand;
 mod reads;
-mod taking;
+mod tries;
 mod writes;
 
 pub use reads::{read_gicr, try_read_gicr};
+pub use tries::try_write_gicr;
 pub use writes::write_gicr;

@@ -6,17 +6,18 @@ ghost use Rattle.its_turns.specs.Machines.{setup, view, IsOf};
 ghost use Rattle.gicr_lpi.specs.Accesses as spec;
 ghost use Rattle.gicr_lpi.specs.Accesses.{write_call};
 ghost use Rattle.gicr_lpi.specs.Asking.{Ends};
-ghost use Rattle.gicr_lpi.specs.Writing.{Writes, WritesOnce};
+ghost use Rattle.gicr_lpi.specs.Writing.{Writes};
 ghost use Rattle.gicr_lpi.specs.Hands.{state_of, held_of, HasEnough, HasRoom, IsHand};
 
 use crate::access::GicrAccess;
 use crate::hand::{Hand, put_hand};
-use crate::taking::take_hand;
+use crate::tries::try_access;
 use its_plain::Reply;
 use its_steps::ShardChange;
-use its_turns::{Lost, Machine, NotMade, Pass, pause, try_commit};
+use its_turns::{Attempt, Lost, Machine, NotMade, Pass, give_way, pause, try_commit};
 use its_types::{Gate, Placed, Vcpu};
 use lpi_pending::LpiRoom;
+use std::alloc::AllocError;
 use std::sync::Wait;
 
 /// Writes `size` bytes, 4 or 8, at an offset of a virtual processor's LPI registers. A write that
@@ -54,55 +55,19 @@ pub fn write_gicr<R: Wait, G: Gate>(
         value,
     };
     for _ in rt.forever() {
-        match write_once(rt, machine, pass, gate, access) {
-            Ok(placed) => return Ok(placed),
-            Err(Unwritten::Lost(Lost::Spent)) => return Err(NotMade::Spent),
-            Err(Unwritten::Lost(Lost::Raced(_))) => pause(),
-            Err(Unwritten::NoMemory) => return Err(NotMade::NoMemory),
+        match try_access(machine, pass, gate, access) {
+            Ok(Attempt::Done(placed)) => return Ok(placed),
+            Ok(Attempt::Spent) => return Err(NotMade::Spent),
+            Ok(Attempt::Busy(_)) => give_way(),
+            Ok(Attempt::Raced(_)) => pause(),
+            Err(AllocError) => return Err(NotMade::NoMemory),
         }
     }
     unreachable!()
 }
 
-// Why a write was not made that was tried once.
-#[derive(Clone, Copy)]
-enum Unwritten {
-    // It had what it needs.
-    Lost(Lost),
-    // There was no memory for it.
-    NoMemory,
-}
-
-// Waits for what the write needs, and tries once to make it.
-fn write_once<R: Wait, G: Gate>(
-    rt: &R,
-    machine: &Machine,
-    pass: &mut Pass,
-    gate: &G,
-    access: GicrAccess,
-) -> Result<Placed<()>, Unwritten>
-    requires of { IsOf machine.now pass.old }
-    requires free { (view pass.old).held ≡ [] }
-    requires vcpu { access.vcpu.0 < vcpu_count (setup machine.now) }
-    ensures of { IsOf machine.now pass.new }
-    ensures answer { WritesOnce (setup machine.now) access (view pass.old) (view pass.new) result }
-{
-    let hand = take_hand(rt, machine, pass, access);
-    let desc = machine.desc();
-    match hand.room(access, &desc.shape, desc.tables.are_programmed()) {
-        Ok(room) => match write_with(machine, pass, gate, access, hand, room) {
-            Ok(placed) => Ok(placed),
-            Err(lost) => Err(Unwritten::Lost(lost)),
-        },
-        Err(_) => {
-            put_hand(machine, pass, access.vcpu, hand);
-            Err(Unwritten::NoMemory)
-        }
-    }
-}
-
-// The write has what it needs in hand.
-fn write_with<G: Gate>(
+/// Makes the write, which has what it needs in hand. Puts all of it back.
+pub fn write_with<G: Gate>(
     machine: &Machine,
     pass: &mut Pass,
     gate: &G,

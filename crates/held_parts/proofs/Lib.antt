@@ -6,3 +6,7 @@ pub mod RedistLoops
 pub mod ShardLoops
 pub mod Lists
 pub mod Wholes
+pub mod Once
+pub mod Below
+pub mod Both
+pub mod OnceWhole

@@ -1,4 +1,5 @@
 pub mod Taking
+pub mod Once
 pub mod Rows
 pub mod Redists
 pub mod Shards

@@ -1,5 +1,5 @@
 -- Parts of redistributors that a pass holds: configurations, and what is pending.
-use Rattle.std.specs.Prelude.{◌≡◌, ◌&&◌, ℕ, true, nat_lt, Option, Some, None, is_some, List, slice_index_or}
+use Rattle.std.specs.Prelude.{◌≡◌, ◌&&◌, ℕ, true, nat_lt, Option, Some, None, is_some, List, length, slice_index_or}
 use Rattle.its_types.specs.declared.ids.Vcpu.{Vcpu}
 use Rattle.its_types.specs.declared.machine.Part.{Part}
 use Rattle.its_types.specs.declared.machine.Part.TheVariants as part
@@ -34,10 +34,14 @@ row_of as_held places vcpu = held_if_in as_held vcpu (at_place places vcpu)
 abbrev pub AreNone : {T : Type 0} → List (Option T) → Type 0
 AreNone places = (vcpu : ℕ) → at_place places vcpu ≡ None
 
--- those of the set that the machine has are in hand, and no other; they have the machine's LPIs
-pub record AreWanted (T : Type 0) (has_lpis : T → Type 0) (s : Setup) (set : RedistSet) (places : List (Option T)) : Type 0 where
-  pub hand : (vcpu : ℕ) → is_some (at_place places vcpu) ≡ (is_in set vcpu && nat_lt vcpu (vcpu_count s))
+-- those of the set below n are in hand, and no other; they have so many LPIs
+pub record AreBelow (T : Type 0) (has_lpis : T → Type 0) (n : ℕ) (set : RedistSet) (places : List (Option T)) : Type 0 where
+  pub hand : (vcpu : ℕ) → is_some (at_place places vcpu) ≡ (is_in set vcpu && nat_lt vcpu n)
   pub lpis : (vcpu : ℕ) (x : T) → at_place places vcpu ≡ Some x → has_lpis x
+
+-- those of the set that the machine has are in hand, and no other; they have the machine's LPIs
+abbrev pub AreWanted : (T : Type 0) → (T → Type 0) → Setup → RedistSet → List (Option T) → Type 0
+AreWanted T has_lpis s set places = AreBelow T has_lpis (vcpu_count s) set places
 
 -- ---- configurations
 
@@ -53,6 +57,9 @@ AreNoConfs redists = AreNone redists.confs
 
 abbrev pub AreConfsOfSet : Setup → RedistSet → RedistParts → Type 0
 AreConfsOfSet s set redists = AreWanted ConfInHand (HasLpisOfConf s.start.layout.shape) s set redists.confs
+
+abbrev pub AreConfsBelow : Setup → ℕ → RedistSet → RedistParts → Type 0
+AreConfsBelow s n set redists = AreBelow ConfInHand (HasLpisOfConf s.start.layout.shape) n set redists.confs
 
 -- none is held
 abbrev pub HoldsNoConf : List Held → Type 0
@@ -77,9 +84,41 @@ AreNoPends redists = AreNone redists.pends
 abbrev pub ArePendsOfSet : Setup → RedistSet → RedistParts → Type 0
 ArePendsOfSet s set redists = AreWanted PendInHand (HasLpisOfPend s.start.layout.shape) s set redists.pends
 
+abbrev pub ArePendsBelow : Setup → ℕ → RedistSet → RedistParts → Type 0
+ArePendsBelow s n set redists = AreBelow PendInHand (HasLpisOfPend s.start.layout.shape) n set redists.pends
+
 abbrev pub HoldsNoPend : List Held → Type 0
 HoldsNoPend held = (vcpu : Vcpu) → ¬ Holds (part.Pend vcpu) held
 
 abbrev pub IsPendIn : RedistSet → Part → Type 0
 IsPendIn set (part.Pend vcpu) = is_in set vcpu.0 ≡ true
 IsPendIn set p = ⊥
+
+-- ---- both
+
+-- the part is the configuration of one of the first set, or what is pending at one of the second
+abbrev pub IsRedistIn : RedistSet → RedistSet → Part → Type 0
+IsRedistIn confs pends (part.Conf vcpu) = is_in confs vcpu.0 ≡ true
+IsRedistIn confs pends (part.Pend vcpu) = is_in pends vcpu.0 ≡ true
+IsRedistIn confs pends p = ⊥
+
+-- each before other parts, what is pending at the highest first
+abbrev pub redists_held : RedistParts → ℕ → List Held → List Held
+redists_held redists n others = pends_held redists n (confs_held redists n others)
+
+-- there are places for each virtual processor
+pub record HavePlaces (s : Setup) (redists : RedistParts) : Type 0 where
+  pub confs : length redists.confs ≡ vcpu_count s
+  pub pends : length redists.pends ≡ vcpu_count s
+
+-- none is in hand
+pub record AreNoRedists (s : Setup) (redists : RedistParts) : Type 0 where
+  pub confs : AreNoConfs redists
+  pub pends : AreNoPends redists
+  pub places : HavePlaces s redists
+
+-- those of the sets are, and no other
+pub record AreRedistsOf (s : Setup) (of_confs of_pends : RedistSet) (redists : RedistParts) : Type 0 where
+  pub confs : AreConfsOfSet s of_confs redists
+  pub pends : ArePendsOfSet s of_pends redists
+  pub places : HavePlaces s redists

@@ -1,9 +1,10 @@
 //! Configurations of redistributors, taken the lowest first.
-ghost use Rattle.std.specs.Prelude.{◌≡◌, List, length};
+ghost use Rattle.std.specs.Prelude.{◌≡◌, ◌≤◌, List, length};
 ghost use Rattle.its_steps.specs.Contents.{Held};
 ghost use Rattle.its_steps.specs.Parts.{vcpu_count};
 ghost use Rattle.its_turns.specs.Machines.{setup, view, IsOf};
 ghost use Rattle.held_parts.specs.Redists.{confs_held, AreNoConfs, AreConfsOfSet};
+ghost use Rattle.held_parts.specs.Redists.{AreConfsBelow};
 ghost use Rattle.held_parts.specs.Redists.{HoldsNoConf, IsConfIn};
 ghost use Rattle.held_parts.specs.Taking.{TakesOnly, holding};
 
@@ -60,7 +61,31 @@ pub fn put_confs(machine: &Machine, pass: &mut Pass, set: RedistSet, redists: &m
         (view pass.old).held ≡ confs_held redists.old (vcpu_count (setup machine.now)) before →
         view pass.new ≡ holding (view pass.old) before }
 {
-    let mut end = machine.vcpus();
+    put_first_confs(machine, pass, set, machine.vcpus(), redists);
+}
+
+/// Of a set those below a number, the highest first.
+pub(crate) fn put_first_confs(
+    machine: &Machine,
+    pass: &mut Pass,
+    set: RedistSet,
+    count: u16,
+    redists: &mut Redists,
+)
+    requires of { IsOf machine.now pass.old }
+    requires count { count ≤ vcpu_count (setup machine.now) }
+    requires hand { AreConfsBelow (setup machine.now) count set redists.old }
+    requires held { (before : List Held) ×
+        ((view pass.old).held ≡ confs_held redists.old count before) }
+    ensures of { IsOf machine.now pass.new }
+    ensures empty { AreNoConfs redists.new }
+    ensures room { length redists.new.confs ≡ length redists.old.confs }
+    ensures pends { redists.new.pends ≡ redists.old.pends }
+    ensures home { (before : List Held) →
+        (view pass.old).held ≡ confs_held redists.old count before →
+        view pass.new ≡ holding (view pass.old) before }
+{
+    let mut end = count;
     while let Some(vcpu) = set.last(end) {
         let conf = redists.take_conf(Vcpu(vcpu));
         put(machine, pass, Part::Conf(Vcpu(vcpu)), Value::Conf(conf));

@@ -1,9 +1,10 @@
 //! What is pending at redistributors, taken the lowest first.
-ghost use Rattle.std.specs.Prelude.{◌≡◌, List, length};
+ghost use Rattle.std.specs.Prelude.{◌≡◌, ◌≤◌, List, length};
 ghost use Rattle.its_steps.specs.Contents.{Held};
 ghost use Rattle.its_steps.specs.Parts.{vcpu_count};
 ghost use Rattle.its_turns.specs.Machines.{setup, view, IsOf};
 ghost use Rattle.held_parts.specs.Redists.{pends_held, AreNoPends, ArePendsOfSet};
+ghost use Rattle.held_parts.specs.Redists.{ArePendsBelow};
 ghost use Rattle.held_parts.specs.Redists.{HoldsNoPend, IsPendIn};
 ghost use Rattle.held_parts.specs.Taking.{TakesOnly, holding};
 
@@ -60,7 +61,31 @@ pub fn put_pends(machine: &Machine, pass: &mut Pass, set: RedistSet, redists: &m
         (view pass.old).held ≡ pends_held redists.old (vcpu_count (setup machine.now)) before →
         view pass.new ≡ holding (view pass.old) before }
 {
-    let mut end = machine.vcpus();
+    put_first_pends(machine, pass, set, machine.vcpus(), redists);
+}
+
+/// What is pending at those of a set below a number, the highest first.
+pub(crate) fn put_first_pends(
+    machine: &Machine,
+    pass: &mut Pass,
+    set: RedistSet,
+    count: u16,
+    redists: &mut Redists,
+)
+    requires of { IsOf machine.now pass.old }
+    requires count { count ≤ vcpu_count (setup machine.now) }
+    requires hand { ArePendsBelow (setup machine.now) count set redists.old }
+    requires held { (before : List Held) ×
+        ((view pass.old).held ≡ pends_held redists.old count before) }
+    ensures of { IsOf machine.now pass.new }
+    ensures empty { AreNoPends redists.new }
+    ensures room { length redists.new.pends ≡ length redists.old.pends }
+    ensures confs { redists.new.confs ≡ redists.old.confs }
+    ensures home { (before : List Held) →
+        (view pass.old).held ≡ pends_held redists.old count before →
+        view pass.new ≡ holding (view pass.old) before }
+{
+    let mut end = count;
     while let Some(vcpu) = set.last(end) {
         let pend = redists.take_pend(Vcpu(vcpu));
         put(machine, pass, Part::Pend(Vcpu(vcpu)), Value::Pend(pend));

@@ -1,15 +1,16 @@
 //! All shards of a translator, taken the first one first.
-ghost use Rattle.std.specs.Prelude.{◌≡◌, ◌<◌, ℕ, List};
+ghost use Rattle.std.specs.Prelude.{◌≡◌, ◌<◌, ◌≤◌, ℕ, List, MatchResult};
 ghost use Rattle.its_steps.specs.Contents.{Held};
 ghost use Rattle.its_steps.specs.Parts.{translator_count};
 ghost use Rattle.its_turns.specs.Machines.{setup, view, IsOf};
 ghost use Rattle.held_parts.specs.Shards.{shards_held, AreNoShards, AreShards, HoldsNoShard};
 ghost use Rattle.held_parts.specs.Shards.{IsShardOf};
+ghost use Rattle.held_parts.specs.Once.{TakesAtOnce, FindsBusy};
 ghost use Rattle.held_parts.specs.Taking.{TakesOnly, holding};
 
 use crate::getting::take_shard;
 use crate::turns::Turns;
-use its_turns::{Machine, Pass, Value, put};
+use its_turns::{Busy, Machine, Pass, Value, put, try_take_shard};
 use its_types::Part;
 use std::marker::Model;
 use xlate_cache::Shard;
@@ -121,6 +122,38 @@ pub fn take_shards<T: Turns>(
     }
 }
 
+/// Tries all shards of a translator, each once and the first one first, and puts them in their
+/// places. Where another pass has one, none of them is held afterwards.
+pub fn once_shards(
+    machine: &Machine,
+    pass: &mut Pass,
+    its: u8,
+    shards: &mut Shards,
+) -> Result<(), Busy>
+    requires of { IsOf machine.now pass.old }
+    requires stands { its < translator_count (setup machine.now) }
+    requires empty { AreNoShards shards.old }
+    requires free { HoldsNoShard its (view pass.old).held }
+    ensures of { IsOf machine.now pass.new }
+    ensures result { MatchResult result
+        (λ _. TakesAtOnce (IsShardOf its) (view pass.old) (view pass.new) ×
+        ((view pass.new).held ≡ shards_held its shards.new (setup machine.now).shards
+        (view pass.old).held) × AreShards (setup machine.now).shards shards.new)
+        (λ b. FindsBusy (IsShardOf its) (view pass.old) b (view pass.new)
+        × AreNoShards shards.new) }
+{
+    for number in 0..machine.shards() {
+        match try_take_shard(machine, pass, its, number) {
+            Ok(shard) => shards.place(number, shard),
+            Err(busy) => {
+                put_first(machine, pass, its, number, shards);
+                return Err(busy);
+            }
+        }
+    }
+    Ok(())
+}
+
 /// Puts them back, the last one first. Their places are empty then.
 pub fn put_shards(machine: &Machine, pass: &mut Pass, its: u8, shards: &mut Shards)
     requires of { IsOf machine.now pass.old }
@@ -134,7 +167,23 @@ pub fn put_shards(machine: &Machine, pass: &mut Pass, its: u8, shards: &mut Shar
         (view pass.old).held ≡ shards_held its shards.old (setup machine.now).shards before →
         view pass.new ≡ holding (view pass.old) before }
 {
-    let count = machine.shards();
+    put_first(machine, pass, its, machine.shards(), shards);
+}
+
+// The first so many, the last one of them first.
+fn put_first(machine: &Machine, pass: &mut Pass, its: u8, count: u32, shards: &mut Shards)
+    requires of { IsOf machine.now pass.old }
+    requires stands { its < translator_count (setup machine.now) }
+    requires count { count ≤ (setup machine.now).shards }
+    requires hand { AreShards count shards.old }
+    requires held { (before : List Held) ×
+        ((view pass.old).held ≡ shards_held its shards.old count before) }
+    ensures of { IsOf machine.now pass.new }
+    ensures empty { AreNoShards shards.new }
+    ensures home { (before : List Held) →
+        (view pass.old).held ≡ shards_held its shards.old count before →
+        view pass.new ≡ holding (view pass.old) before }
+{
     for k in 0..count {
         let number = count - 1 - k;
         let shard = shards.take_out(number);

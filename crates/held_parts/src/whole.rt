@@ -124,7 +124,7 @@ pub fn put_whole(machine: &Machine, pass: &mut Pass, whole: Whole)
     put(machine, pass, Part::Maps(0), Value::Maps(first));
 }
 
-fn put_second(machine: &Machine, pass: &mut Pass, second: Option<Box<Translator>>)
+pub(crate) fn put_second(machine: &Machine, pass: &mut Pass, second: Option<Box<Translator>>)
     requires of { IsOf machine.now pass.old }
     requires all { is_some second ≡ (translator_count (setup machine.now) == 2) }
     requires held { (before : List Held) × ((view pass.old).held

@@ -5,3 +5,4 @@ mod Savings
 mod Copying
 mod Left
 pub mod Fresh
+mod Once

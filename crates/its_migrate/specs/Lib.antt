@@ -2,3 +2,4 @@ pub mod Resting
 pub mod Precopying
 pub mod Saving
 pub mod Shared
+pub mod Tries

@@ -11,6 +11,7 @@ mod precopying;
 mod resting;
 mod saving;
 mod sharing;
+mod trying;
 
 pub use laws::precopies_as_migrates;
 pub use leaving::migrate;
@@ -19,3 +20,4 @@ pub use precopying::precopy;
 pub use resting::{PendingLists, pending};
 pub use saving::save;
 pub use sharing::share;
+pub use trying::try_save;

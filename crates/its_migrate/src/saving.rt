@@ -101,9 +101,9 @@ fn commit_save<R: Wait, G: Gate>(
     unreachable!()
 }
 
-// The pages of guest memory with the tables saved in them, or why they can't be saved. Nothing
-// after this takes memory.
-fn saves(
+/// The pages of guest memory with the tables saved in them, or why they can't be saved. Nothing
+/// after this takes memory.
+pub fn saves(
     alloc: Global,
     layout: &Layout,
     whole: &Whole,
@@ -119,8 +119,8 @@ fn saves(
     }
 }
 
-// What the save answers.
-fn answer_of(saved: &Result<Draft, SaveFault>) -> Result<(), SaveFault>
+/// What the save answers.
+pub fn answer_of(saved: &Result<Draft, SaveFault>) -> Result<(), SaveFault>
     ensures { result ≡ answered saved.now }
 {
     match saved {
@@ -129,9 +129,9 @@ fn answer_of(saved: &Result<Draft, SaveFault>) -> Result<(), SaveFault>
     }
 }
 
-// Lays the pages over guest memory, where the tables can be saved, and marks those that the tables
-// lie in. Takes no memory.
-fn adopt(saved: Result<Draft, SaveFault>, layout: &Layout, whole: &mut Whole)
+/// Lays the pages over guest memory, where the tables can be saved, and marks those that the tables
+/// lie in. Takes no memory.
+pub fn adopt(saved: Result<Draft, SaveFault>, layout: &Layout, whole: &mut Whole)
     requires hand { AreAllInHand layout.now.shape (redists_in whole.old) }
     requires sound { IsSound (state_of_whole layout.now whole.old) }
     ensures first { whole.new.first ≡ whole.old.first }
@@ -227,7 +227,8 @@ fn second_in_place(second: &Option<Box<Translator>>) -> Option<TranslatorRef<'_>
     }
 }
 
-fn reply_to(saved: &Result<(), SaveFault>) -> Reply
+/// As the history has it.
+pub fn reply_to(saved: &Result<(), SaveFault>) -> Reply
     ensures { result ≡ save_reply saved.now }
 {
     match saved {

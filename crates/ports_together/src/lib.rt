@@ -20,3 +20,5 @@ mod overtaking;
 mod pairs;
 #[cfg(test)]
 mod passes;
+#[cfg(test)]
+mod tries;

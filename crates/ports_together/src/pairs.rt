@@ -170,8 +170,8 @@ fn copied<R: Wait>(rt: &R, machine: &Machine, pass: &mut Pass) -> Said
     }
 }
 
-// Whether these requesters are devices, and all their numbers low.
-fn are_low(ranges: &[Requesters]) -> bool
+/// Whether these requesters are devices, and all their numbers low.
+pub fn are_low(ranges: &[Requesters]) -> bool
     ensures { result ≡ true → AreDevices ranges.now }
 {
     ranges

@@ -13,6 +13,7 @@ use Rattle.cmd_engine.specs.Cached.{IsAny}
 use Rattle.cmd_engine.specs.Hands.{Memory, IsOfStep}
 use Rattle.cmd_engine.proofs.Came.{came_spent, came_no_memory, came_late, came_raced, made_as}
 use Rattle.cmd_engine.proofs.Carrying.{if_err, wants, sound_in, leaves_so, within_then, may_commit, in_hand_then}
+use Rattle.cmd_engine.proofs.Untried.{looked_tries, committed_tries, raced_tries}
 use Rattle.cmd_engine.proofs.commands.make_command.Goals as goal
 
 pub returns-in_default-clause-comes : goal.returns-in_default-clause-comes
@@ -95,3 +96,20 @@ returns-clause-comes g c v bare goes = let m = c.args.machine.now in let q = c.r
     q.needed (view c.begin.new.pass) c.in-Ok.word q.of.1 c.in-Ok.ensures.word.0 c.desc.result.now.shape c.desc.ensures.shape said
     (rw (c.deref_mut-translator.ensures.value, c.deref_mut.ensures.value) at c.plan-planned.ensures.reply) c.in-Ok.ensures.word.1 c.in-Some-mark_of.mark
     (rw (c.reply.ensures) at c.in-Some-mark_of.ensures)) c.in-Ok-commit_marked.place c.in-Ok-commit_marked.ensures.result.0
+
+pub returns-in_default-clause-tries : goal.returns-in_default-clause-tries
+returns-in_default-clause-tries g c = let w = c.in_default.ensures.word in looked_tries (view c.args.pass.now) (view c.begin.new.pass) w.0 w.1
+
+pub returns-then-is_err-clause-tries : goal.returns-then-is_err-clause-tries
+returns-then-is_err-clause-tries g c = looked_tries (view c.args.pass.now) (view c.begin.new.pass) c.in-Ok.word c.in-Ok.ensures.word.0
+
+pub returns-in_default-mark_of-clause-tries : goal.returns-in_default-mark_of-clause-tries
+returns-in_default-mark_of-clause-tries g c = looked_tries (view c.args.pass.now) (view c.begin.new.pass) c.in-Ok.word c.in-Ok.ensures.word.0
+
+pub returns-in-Err-clause-tries : goal.returns-in-Err-clause-tries
+returns-in-Err-clause-tries g c = raced_tries (view c.begin.new.pass) (view c.commit_marked.new.pass) c.in-Ok.word c.in-Err.missed c.in-Err.ensures.result
+    ∙ looked_tries (view c.args.pass.now) (view c.begin.new.pass) c.in-Ok.word c.in-Ok.ensures.word.0
+
+pub returns-clause-tries : goal.returns-clause-tries
+returns-clause-tries g c = committed_tries (view c.begin.new.pass) (view c.commit_marked.new.pass) _ c.in-Ok-commit_marked.ensures.result.1
+    ∙ looked_tries (view c.args.pass.now) (view c.begin.new.pass) c.in-Ok.word c.in-Ok.ensures.word.0

@@ -1,4 +1,4 @@
-use Rattle.std.proofs.Common.{refl}
+use Rattle.std.proofs.Common.{refl, ◌∙◌}
 use Rattle.its_plain.specs.declared.call.Reply.TheVariants as reply
 use Rattle.its_turns.specs.Machines.{setup, view}
 use Rattle.its_turns.proofs.Stamps.{has_stamps}
@@ -8,6 +8,7 @@ use Rattle.cmd_engine.specs.Hands.{IsOfTranslator}
 use Rattle.cmd_engine.specs.Registers.{write_call}
 use Rattle.cmd_engine.proofs.Came.{came_spent, came_late, came_raced, made_as}
 use Rattle.cmd_engine.proofs.Written.{write_leaves, write_within, write_may, in_hand_written}
+use Rattle.cmd_engine.proofs.Untried.{looked_tries, committed_tries, raced_tries}
 use Rattle.cmd_engine.proofs.writing.make_write.Goals as goal
 
 pub returns-in_default-clause-comes : goal.returns-in_default-clause-comes
@@ -56,3 +57,17 @@ returns-clause-comes g c v bare goes = let m = c.args.machine.now in let q = c.r
     (rw (c.call-call.ensures) at c.in-Ok-commit_marked.ensures.result.1)
     (write_leaves (setup m) (has_stamps m) (view c.args.pass.now) h q.hands q.own c.args.write q.ends (view c.begin.new.pass) c.in-Ok.word
     q.of.1 c.in-Ok.ensures.word.0 c.in-Ok.ensures.word.1 c.in-Some.mark c.in-Some.ensures) c.in-Ok-commit_marked.place c.in-Ok-commit_marked.ensures.result.0
+
+pub returns-in_default-clause-tries : goal.returns-in_default-clause-tries
+returns-in_default-clause-tries g c = let w = c.in_default.ensures.word in looked_tries (view c.args.pass.now) (view c.begin.new.pass) w.0 w.1
+
+pub returns-in_default-mark-clause-tries : goal.returns-in_default-mark-clause-tries
+returns-in_default-mark-clause-tries g c = looked_tries (view c.args.pass.now) (view c.begin.new.pass) c.in-Ok.word c.in-Ok.ensures.word.0
+
+pub returns-in-Err-clause-tries : goal.returns-in-Err-clause-tries
+returns-in-Err-clause-tries g c = raced_tries (view c.begin.new.pass) (view c.commit_marked.new.pass) c.in-Ok.word c.in-Err.missed c.in-Err.ensures.result
+    ∙ looked_tries (view c.args.pass.now) (view c.begin.new.pass) c.in-Ok.word c.in-Ok.ensures.word.0
+
+pub returns-clause-tries : goal.returns-clause-tries
+returns-clause-tries g c = committed_tries (view c.begin.new.pass) (view c.commit_marked.new.pass) _ c.in-Ok-commit_marked.ensures.result.1
+    ∙ looked_tries (view c.args.pass.now) (view c.begin.new.pass) c.in-Ok.word c.in-Ok.ensures.word.0

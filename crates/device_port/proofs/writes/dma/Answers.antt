@@ -1,30 +1,51 @@
-use Rattle.std.proofs.Common.{◌<◌, ℕ, [], ap, sym, ◌∙◌, subst}
-use Rattle.its_plain.specs.declared.call.Call.TheVariants as call
-use Rattle.its_plain.specs.declared.call.Reply.TheVariants as reply
-use Rattle.its_plain.specs.declared.call.Route.{Route}
-use Rattle.its_steps.proofs.Ports.{nothings}
-use Rattle.its_steps.specs.Calls.{staying, MayLeave}
-use Rattle.its_steps.specs.MayCall.{message_of}
-use Rattle.its_steps.specs.declared.change.ShardChange.TheVariants.{Keep}
-use Rattle.its_turns.specs.Machines.{setup}
-use Rattle.device_port.proofs.Doorbells.{stands}
+use Rattle.its_plain.specs.Doorbells.{dma_of, route_of}
+use Rattle.its_turns.specs.Machines.{view}
+use Rattle.device_port.proofs.Repeated.{none_got, dma_busy, dma_raced, dma_spent, dma_done, dma_given_up}
+use Rattle.its_turns.proofs.Telling.{stays_first}
 use Rattle.device_port.proofs.writes.dma.Goals as goal
 
-pub send-requires-clause-sends : goal.send-requires-clause-sends
-send-requires-clause-sends g c =
-    let s = c.in-Signal in
-    let below = stands c.desc.result.now c.args.req c.args.addr.0 c.args.bytes.now s.its s.dev s.ev (sym c.route-route.ensures.route ∙ s.is) in
-    record {
-      message_is = ap (λ (r : Route). message_of (call.Dma c.args.req c.args.addr c.args.bytes.now r)) s.is;
-      stands = subst (λ (n : ℕ). s.its < n) c.desc.ensures.translators below;
-    }
+pub loop-init : goal.loop-init
+loop-init g c = let d = c.args.machine.now.desc in let v = view c.args.pass.now in (
+  tt,
+  tt,
+  c.requires.of,
+  stays_first v,
+  none_got (dma_of d c.args.req c.args.addr c.args.bytes.now) v (route_of d c.args.req c.args.addr.0 c.args.bytes.now),
+)
 
-pub tell-requires-clause-may : goal.tell-requires-clause-may
-tell-requires-clause-may g c w room = let m = c.args.machine.now in
-    subst (λ (r : Route). MayLeave (setup m) (staying w (call.Dma c.args.req c.args.addr c.args.bytes.now r) reply.NoRequester Keep) [] [])
-    (sym c.in-NoRequester.is) (nothings (setup m) w c.args.req c.args.addr c.args.bytes.now m.laid.1 room).0
+pub loop-preserved-in-Ok-Busy : goal.loop-preserved-in-Ok-Busy
+loop-preserved-in-Ok-Busy g c =
+    let d = c.args.machine.now.desc in let i = c.loop.invariant in
+    let more = dma_busy (dma_of d c.args.req c.args.addr c.args.bytes.now) (view c.args.pass.now) (view c.loop.pass) i.3
+    (route_of d c.args.req c.args.addr.0 c.args.bytes.now) i.4 c.in-Ok-Busy.field-0-0 (view c.try_dma.new.pass)
+    (rw c.in-Ok-Busy.field-0-is at c.in-Ok-Busy.ensures.answer) in
+    (tt, tt, c.try_dma.ensures.of, more.0, more.1)
 
-pub tell-requires-in-Frame-clause-may : goal.tell-requires-in-Frame-clause-may
-tell-requires-in-Frame-clause-may g c w room = let m = c.args.machine.now in
-    subst (λ (r : Route). MayLeave (setup m) (staying w (call.Dma c.args.req c.args.addr c.args.bytes.now r) reply.Outside Keep) [] [])
-    (sym c.in-Frame.is) (nothings (setup m) w c.args.req c.args.addr c.args.bytes.now m.laid.1 room).1
+pub loop-preserved : goal.loop-preserved
+loop-preserved g c =
+    let d = c.args.machine.now.desc in let i = c.loop.invariant in
+    let more = dma_raced (dma_of d c.args.req c.args.addr c.args.bytes.now) (view c.args.pass.now) (view c.loop.pass) i.3
+    (route_of d c.args.req c.args.addr.0 c.args.bytes.now) i.4 c.in-Ok-Raced.field-0-0 (view c.try_dma.new.pass)
+    (rw c.in-Ok-Raced.field-0-is at c.in-Ok-Raced.ensures.answer) in
+    (tt, tt, c.try_dma.ensures.of, more.0, more.1)
+
+pub returns-in-Ok-Done-clause-answer : goal.returns-in-Ok-Done-clause-answer
+returns-in-Ok-Done-clause-answer g c =
+    let d = c.args.machine.now.desc in let i = c.loop.invariant in
+    dma_done (dma_of d c.args.req c.args.addr c.args.bytes.now) (view c.args.pass.now) (view c.loop.pass) i.3
+    (route_of d c.args.req c.args.addr.0 c.args.bytes.now) i.4 c.in-Ok-Done.placed (view c.try_dma.new.pass)
+    (rw c.in-Ok-Done.field-0-is at c.in-Ok-Done.ensures.answer)
+
+pub returns-in-Ok-Spent-clause-answer : goal.returns-in-Ok-Spent-clause-answer
+returns-in-Ok-Spent-clause-answer g c =
+    let d = c.args.machine.now.desc in let i = c.loop.invariant in
+    dma_spent (dma_of d c.args.req c.args.addr c.args.bytes.now) (view c.args.pass.now) (view c.loop.pass) i.3
+    (route_of d c.args.req c.args.addr.0 c.args.bytes.now) i.4 (view c.try_dma.new.pass)
+    (rw c.in-Ok-Spent.field-0-is at c.in-Ok-Spent.ensures.answer)
+
+pub returns-in-Err-clause-answer : goal.returns-in-Err-clause-answer
+returns-in-Err-clause-answer g c =
+    let d = c.args.machine.now.desc in let i = c.loop.invariant in let e = c.in-Err.ensures.answer in
+    let up = dma_given_up (dma_of d c.args.req c.args.addr c.args.bytes.now) (view c.args.pass.now) (view c.loop.pass) i.3
+    (route_of d c.args.req c.args.addr.0 c.args.bytes.now) i.4 (view c.try_dma.new.pass) e.0 e.1 in
+    (e.0, up.0, up.1)
