@@ -20,14 +20,15 @@ class Bare:
     """A machine whose ITS is enabled, with a queue of 1 MiB, and a collection that goes to processor 0."""
 
     def __init__(self, work, name, library, more=()):
-        self.vm = Vm(work, name, library, processors=1, memory=256, kernel=None, nvme=False, disks=(), more=more)
+        self.vm = Vm(work, name, library, processors=1, memory=256, kernel=None, nvme=False, disks=(), more=more,
+                     record=False)
         vm = self.vm
         self.place = 0
         vm.store_bytes(CONFIG, b"\xA1" * LPIS)
         vm.store(GICR + 0x70, CONFIG | 15)
         vm.store(GICR + 0x78, PENDING)
         vm.of_bus(f"writel {GICR:#x} 1")
-        vm.store(BASER, VALID | DEVICES | LARGE_PAGES | 7)
+        vm.store(BASER, VALID | DEVICES | LARGE_PAGES)
         vm.store(BASER + 8, VALID | COLLECTIONS | LARGE_PAGES)
         vm.store(CBASER, VALID | QUEUE | 255)
         vm.of_bus(f"writel {CTLR:#x} 1")
@@ -133,6 +134,7 @@ def overlap(work, name, library):
     end = time.time() + 60 * PATIENCE
     while vm.qmp("query-migrate").get("status") not in ("failed", "completed"):
         need(time.time() < end, "watchdog: the migration doesn't end")
+        time.sleep(0.05)
     answer = vm.qmp("query-migrate")
     need("tables not saved: overlap" in answer.get("error-desc", ""), f"the migration: {answer}")
     machine.run([command(8, 2 << 32, 0, 0)])

@@ -132,6 +132,7 @@ void __real_memory_global_after_dirty_log_sync(void)
 
 static void __attribute__((constructor)) start(void)
 {
+    unsetenv("LD_PRELOAD");         /* what QEMU starts has none of its functions */
     pages_entry = leave(memory_global_after_dirty_log_sync,
                         __wrap_memory_global_after_dirty_log_sync);
     if (getenv("ITS_TIMES")) {

@@ -23,9 +23,11 @@ class Vm:
     """
 
     def __init__(self, work, name, library, processors=4, memory=512, disks=(None, None), more=(), incoming=None,
-                 words="", times=None, nvme=True, latency=0, kernel="", ports=False, machine="", reboot=False):
+                 words="", times=None, nvme=True, latency=0, kernel="", ports=False, machine="", reboot=False,
+                 record=True):
         self.base = os.path.join(work, name)
         self.library = library
+        self.record = record
         self.text = ""
         for suffix in (".serial", ".qmp", ".qtest"):
             if os.path.exists(self.base + suffix):
@@ -73,7 +75,8 @@ class Vm:
                        "virtio-rng-pci"]
 
     def environment(self, times):
-        return {**os.environ, **({"ITS_TIMES": times} if times else {"ITS_RECORD": self.base + ".record"})}
+        kept = {"ITS_TIMES": times} if times else {"ITS_RECORD": self.base + ".record"} if self.record else {}
+        return {**os.environ, **kept}
 
     def connect(self, suffix):
         for _ in range(300):
