@@ -1,15 +1,25 @@
-"""Scenarios without a guest: QEMU's bus is written instead of it, and its processor waits for ever."""
+"""Scenarios without a Linux: QEMU's bus is written in its place, and processors take what comes (bare.s)."""
 import struct
 import time
 
+import saving
 from checks import need
 from vm import PATIENCE, RAM, Vm
 
 GITS, GICR, ECAM = 0x08080000, 0x080A0000, 0x4010000000
 CTLR, CBASER, CWRITER, CREADR, BASER = GITS, GITS + 0x80, GITS + 0x88, GITS + 0x90, GITS + 0x100
-QUEUE, DEVICES, COLLECTIONS, CONFIG, PENDING, TABLE = (RAM + (i << 20) for i in range(1, 7))
+QUEUE, DEVICES, COLLECTIONS, CONFIG, TABLE, PENDING = (RAM + (i << 20) for i in range(2, 8))
+LOG, COUNT = RAM + (1 << 20), RAM + (1 << 20) + 0xF000
 VALID, LARGE_PAGES = 1 << 63, 2 << 8
 LPIS, DEEP = 65536 - 8192, 0x8000
+
+
+# bare.s
+CODE = bytes.fromhex(
+    "e10080d2a1cc18d5df3f03d5e11f80d2014618d5210080d2e1cc18d5df3f03d5a40038d5850c4092863c48d3a410068b"
+    "0502a8d2a510048ba40100b402cc38d5030084d25f0003ebe300005422cc18d5a20400f9a60040f9c6040091a60000f9"
+    "f7ffff177f2003d5f5ffff170702a8d207009ef2e70040f9280080d21f0107ebe2fdff54600080d20080b8f2010d4092"
+    "02fd44d3212002aa0200a8d2020000d408050091f6ffff17")
 
 
 def command(op, first=0, second=0, third=0):
@@ -17,22 +27,30 @@ def command(op, first=0, second=0, third=0):
 
 
 class Bare:
-    """A machine whose ITS is enabled, with a queue of 1 MiB, and a collection that goes to processor 0."""
+    """A machine whose ITS is enabled, with a queue of 1 MiB. The collection of a processor's number goes there.
 
-    def __init__(self, work, name, library, more=()):
-        self.vm = Vm(work, name, library, processors=1, memory=256, kernel=None, nvme=False, disks=(), more=more,
-                     record=False)
+    QEMU's bus sends messages as device 0.
+    """
+
+    def __init__(self, work, name, library, more=(), processors=1, record=False):
+        self.vm = Vm(work, name, library, processors=processors, memory=256, kernel=None, nvme=False, disks=(),
+                     more=[*more, "-S"], record=record)
         vm = self.vm
         self.place = 0
+        vm.store_bytes(RAM, CODE)
+        vm.store(COUNT, processors)
         vm.store_bytes(CONFIG, b"\xA1" * LPIS)
-        vm.store(GICR + 0x70, CONFIG | 15)
-        vm.store(GICR + 0x78, PENDING)
-        vm.of_bus(f"writel {GICR:#x} 1")
+        for i in range(processors):
+            vm.store(GICR + (i << 17) + 0x70, CONFIG | 15)
+            vm.store(GICR + (i << 17) + 0x78, PENDING + (i << 16))
+            vm.of_bus(f"writel {GICR + (i << 17):#x} 1")
+        vm.deliver(True)
         vm.store(BASER, VALID | DEVICES | LARGE_PAGES)
         vm.store(BASER + 8, VALID | COLLECTIONS | LARGE_PAGES)
         vm.store(CBASER, VALID | QUEUE | 255)
         vm.of_bus(f"writel {CTLR:#x} 1")
-        self.run([command(9, second=0, third=VALID)])
+        vm.qmp("cont")
+        self.run([command(9, third=VALID | i << 16 | i) for i in range(processors)])
 
     def put(self, commands):
         """Commands into the queue, and CWRITER after them: how long the write took, in seconds."""
@@ -57,6 +75,19 @@ class Bare:
                 return longest
             need(time.time() < end, "watchdog: the queue isn't taken")
 
+    def signal(self, event):
+        self.vm.of_bus(f"writel {GITS + 0x10040:#x} {event:#x}")
+
+    def taken(self, processor):
+        """How many LPIs a processor took, and the last."""
+        return self.vm.load(LOG + 16 * processor), self.vm.load(LOG + 16 * processor + 8)
+
+    def comes(self, processor, count, intid):
+        end = time.time() + 60 * PATIENCE
+        while self.taken(processor) != (count, intid):
+            need(time.time() < end, f"watchdog: processor {processor} took {self.taken(processor)}")
+            time.sleep(0.01)
+
     def run(self, commands):
         self.put(commands)
         self.done()
@@ -70,32 +101,31 @@ def map_all(machine, device):
                      for i in range(first, min(first + DEEP // 2, LPIS))])
 
 
+def queue_of(machine, commands):
+    """How long a queue of these takes, and for how long nobody else had QEMU's big lock."""
+    vm = machine.vm
+    since = time.time()
+    write = machine.put(commands)
+    longest = machine.done()
+    told = f"{len(commands):,} commands in {time.time() - since:.2f} s, the write {write * 1e3:.2f} ms, " \
+           f"the monitor waited {longest * 1e3:.2f} ms"
+    if vm.library:
+        told += f", longest write {vm.told('longest write')} ns, longest slice {vm.told('longest')} ns"
+    return vm, told
+
+
 def full_queue(work, name, library):
-    """a queue full of INVALL, with all LPIs mapped"""
+    """a queue of INVALL, with all LPIs mapped"""
     machine = Bare(work, name, library)
     map_all(machine, 8)
-    since = time.time()
-    write = machine.put([command(13)] * 1000)
-    longest = machine.done()
-    told = f"1,000 commands in {time.time() - since:.2f} s, the write {write * 1e3:.2f} ms, the monitor waited {longest * 1e3:.2f} ms"
-    if library:
-        told += f", longest write {machine.vm.told('longest write')} ns, slice {machine.vm.told('longest')} ns"
-        need(machine.vm.told("longest write") < 100000, told)
-    return machine.vm, told
+    return queue_of(machine, [command(13)] * 1000)
 
 
 def brief_commands(work, name, library):
     """a queue full of INV"""
     machine = Bare(work, name, library)
     map_all(machine, 8)
-    since = time.time()
-    write = machine.put([command(12, 8 << 32, i) for i in range(DEEP - 1)])
-    longest = machine.done()
-    told = f"{DEEP - 1:,} commands in {time.time() - since:.2f} s, the write {write * 1e3:.2f} ms, the monitor waited {longest * 1e3:.2f} ms"
-    if library:
-        told += f", longest write {machine.vm.told('longest write')} ns, slice {machine.vm.told('longest')} ns"
-        need(machine.vm.told("longest write") < 100000, told)
-    return machine.vm, told
+    return queue_of(machine, [command(12, 8 << 32, i) for i in range(DEEP - 1)])
 
 
 def more_memory(work, name, library):
@@ -104,7 +134,8 @@ def more_memory(work, name, library):
         return None, "not run: it has no windows"
     more = []
     for i in range(20):
-        more += ["-object", f"memory-backend-ram,id=more{i},size=1M", "-device", f"ivshmem-plain,memdev=more{i},master=on,addr={i + 4:#x}"]
+        more += ["-object", f"memory-backend-ram,id=more{i},size=1M", "-device",
+                 f"ivshmem-plain,memdev=more{i},master=on,addr={i + 4:#x}"]
     machine = Bare(work, name, library, more)
     vm = machine.vm
     places = [0x8000000000 + (i << 30) for i in range(20)]
@@ -140,3 +171,46 @@ def overlap(work, name, library):
     machine.run([command(8, 2 << 32, 0, 0)])
     need("can't be saved" not in vm.info(), vm.info())
     return vm, answer["error-desc"]
+
+
+def without_linux(work, name, library):
+    """64 processors without a Linux: LPIs taken, moved, disabled, pending through a migration"""
+    count = 64
+    machine = Bare(work, name + "-0", library, processors=count, record=True)
+    vm = machine.vm
+    machine.run([command(8, 0, 5, VALID | TABLE)] + [command(10, 0, (8192 + i) << 32 | i, i) for i in range(count)])
+    for i in range(count):
+        machine.signal(i)
+        machine.comes(i, 1, 8192 + i)
+    machine.run([command(1, 0, i, count - 1 - i) for i in range(count)])
+    for i in range(count):
+        machine.signal(i)
+        machine.comes(count - 1 - i, 2, 8192 + i)
+    switched(machine, 63, 8192)
+    vm.deliver(False)
+    for i in range(count):
+        machine.signal(i)
+    vm, told = saving.moved_to(vm, work, name + "-1", kernel=None, processors=count, memory=256, disks=())
+    machine.vm = vm
+    vm.deliver(True)
+    for i in range(count):
+        machine.comes(count - 1 - i, 5 if i == 0 else 3, 8192 + i)
+    return vm, f"{4 * count} commands, {3 * count + 2} signals{told}"
+
+
+def switched(machine, processor, intid):
+    """An LPI isn't taken while it is disabled: by GICR_INVLPIR, and by GICR_INVALLR; with QEMU's own by INV."""
+    vm = machine.vm
+    frame = GICR + (processor << 17)
+    for times, (register, value) in enumerate(((0xA0, intid), (0xB0, 0))):
+        for byte in ("a0", "a1"):
+            vm.of_bus(f"write {CONFIG + intid - 8192:#x} 1 0x{byte}")
+            if machine.vm.library:
+                vm.store(frame + register, value)
+            else:
+                machine.run([command(12, 0, intid - 8192)])
+            if byte == "a0":
+                machine.signal(intid - 8192)
+                time.sleep(0.2)
+                need(machine.taken(processor)[0] == 2 + times, f"it took {machine.taken(processor)}")
+        machine.comes(processor, 3 + times, intid)

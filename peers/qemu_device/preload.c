@@ -75,9 +75,10 @@ static MemTxResult redist_read(void *opaque, hwaddr offset, uint64_t *value, uns
                                MemTxAttrs attrs)
 {
     hwaddr in = offset;
+    GICv3CPUState *cs = processor_of(opaque, &in);
     MemTxResult result = MEMTX_OK;
 
-    if (!gicv3_lpi_read(processor_of(opaque, &in), in, value, size)) {
+    if (!gicv3_lpi_read(cs, in, value, size)) {
         AS_IT_WAS(read_entry, result = gicv3_redist_read(opaque, offset, value, size, attrs));
     }
     return result;
@@ -87,9 +88,10 @@ static MemTxResult redist_write(void *opaque, hwaddr offset, uint64_t value, uns
                                 MemTxAttrs attrs)
 {
     hwaddr in = offset;
+    GICv3CPUState *cs = processor_of(opaque, &in);
     MemTxResult result = MEMTX_OK;
 
-    if (!gicv3_lpi_write(processor_of(opaque, &in), in, value, size)) {
+    if (!gicv3_lpi_write(cs, in, value, size)) {
         AS_IT_WAS(write_entry, result = gicv3_redist_write(opaque, offset, value, size, attrs));
     }
     return result;

@@ -15,10 +15,10 @@ def waiting(vm):
     time.sleep(1)
 
 
-def moved_to(vm, work, name):
+def moved_to(vm, work, name, **like):
     """The virtual machine goes on in another process, and with the same state. It tells for how long it stood still."""
     path = f"{work}/{name}.socket"
-    target = Vm(work, name, vm.library, incoming=f"unix:{path}", nvme=False, latency=LATENCY)
+    target = Vm(work, name, vm.library, incoming=f"unix:{path}", nvme=False, **{"latency": LATENCY, **like})
     vm.qmp("migrate", uri=f"unix:{path}")
     end = time.time() + 120 * PATIENCE
     while vm.qmp("query-migrate").get("status") not in ("completed", "failed"):

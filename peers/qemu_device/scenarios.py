@@ -209,7 +209,8 @@ def stress(work, name, library):
 
 SCENARIOS = [boot, many_processors, bridges, others, moves, processors, drivers, reset, saving.migration,
              saving.cancelled, saving.postcopy, saving.snapshot, saving.again, saving.foreign, saving.bad_tables,
-             hibernation, suspend, kexec, bare.full_queue, bare.brief_commands, bare.more_memory, bare.overlap]
+             hibernation, suspend, kexec, bare.without_linux, bare.full_queue,
+             bare.brief_commands, bare.more_memory, bare.overlap]
 KERNELS = [kernel(which) for which in ("5.10", "6.12", "7.2", "rt")]
 LONG = [stress]
 

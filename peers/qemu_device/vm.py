@@ -17,9 +17,9 @@ PATIENCE = int(os.environ.get("PATIENCE", "1"))     # how many times as long eac
 class Vm:
     """`library` chooses the translator. With `times`, a file, times are kept and no record.
 
-    QEMU doesn't migrate an NVMe device, so a guest that is to be saved has none. Disks answer after `latency` ns.
-    `kernel` is the end of the names of another kernel's files (run.sh kernels); None starts no guest, but a processor that
-    waits for ever. Each entry of `disks` is a file, or None for an empty disk; behind `ports` each has a port of its own.
+    QEMU doesn't migrate an NVMe device, so a guest that is to be saved has none. Disks answer after `latency` ns. Each
+    of `disks` is a file, or None for an empty one; with `ports` each has a port of its own. `kernel` is the end of the
+    names of another kernel's files; with None there is no guest, and what is written to RAM runs (bare.py).
     """
 
     def __init__(self, work, name, library, processors=4, memory=512, disks=(None, None), more=(), incoming=None,
@@ -55,9 +55,8 @@ class Vm:
                 f"unix:{self.base}.qtest,server=on,wait=off", "-qtest-log", "/dev/null"]
 
     def guest_words(self, work, kernel, words):
-        if kernel is None:          # at the begin of RAM `wfi`, and back to it
-            return ["-device", f"loader,addr={RAM:#x},data=0x17ffffffd503207f,data-len=8", "-device",
-                    f"loader,addr={RAM:#x},cpu-num=0"]
+        if kernel is None:          # the first processor begins where RAM does
+            return ["-device", f"loader,addr={RAM:#x},cpu-num=0"]
         return ["-kernel", f"{work}/vmlinuz{kernel}", "-initrd", f"{work}/initrd{kernel}.gz", "-append",
                 f"console=ttyAMA0 quiet panic=-1 no_console_suspend patience={PATIENCE} " + words]
 

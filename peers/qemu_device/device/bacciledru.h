@@ -63,6 +63,7 @@ struct BacciledruIts {
     bool wider;                    /* than those of the machine */
     MemoryListener listener;
     VMChangeStateEntry *changes;
+    uint64_t mapped;               /* events at most: those that are unmapped count on */
     QEMUBH *queue;                 /* takes commands, a slice at a time */
     QEMUTimer *again;              /* where the host had no memory for one */
     Error *unsaved;                /* why the tables in guest memory aren't the present ones */

@@ -28,6 +28,7 @@ static void add_pages(BacciledruIts *s, enum its_region kind, uint64_t address, 
     Source source = kind == ITS_REGION_CONFIG_OF ? FROM_GUEST : fills->source;
     uint8_t page[PAGE];
 
+    s->mapped += kind == ITS_REGION_ITT ? length / 8 : 0;
     for (uint64_t at = QEMU_ALIGN_DOWN(address, PAGE); at < address + length; at += PAGE) {
         struct its_fill_in fill = { at, PAGE };
 
@@ -112,6 +113,7 @@ bool bacciledru_make(BacciledruIts *s, Source source, Error **errp)
     g_autoptr(GByteArray) bytes = g_byte_array_new();
     Fills fills = { source, pages, list, bytes };
 
+    s->mapped = 0;
     if (source != FROM_NOTHING) {
         bacciledru_walk(s, source, add_pages, &fills);
     }

@@ -2,7 +2,9 @@
  * Commands of the guest's queue, and messages of its devices.
  *
  * A write of the control frame takes commands for a while, as long as they are short. The others,
- * and what is left, a bottom half takes in slices, between which QEMU's big lock is free.
+ * and what is left, a bottom half takes in slices, between which QEMU's big lock is free. A guest that
+ * waits for its commands reads GITS_CREADR again and again, and the bottom half has to get the lock
+ * from it: so what is short is better taken at once.
  *
  * SPDX-License-Identifier: MIT OR Apache-2.0
  */
@@ -13,14 +15,16 @@
 #include "hw/intc/trace.h"
 
 enum { SLICE = 64, SLICE_NS = 40000, AGAIN_NS = 100000000, COMMAND = 32 };
-enum { MAPD = 0x08, INVALL = 0x0D, MOVALL = 0x0E };
+enum { MAPD = 0x08, MAPTI = 0x0A, MAPI = 0x0B, INVALL = 0x0D, MOVALL = 0x0E };
+enum { SHORT = 4000 };             /* events that a short command may look at, some ns for each */
 
 typedef enum Taken { TAKEN, LONG_ONE, NONE_LEFT, NO_MEMORY } Taken;
 
-/* How long these take grows with the events of a device or a processor. */
-static bool is_long(uint8_t op)
+/* INVALL looks at each event at each processor, MAPD at those of a device, MOVALL at what is pending. */
+static bool is_long(BacciledruIts *s, uint8_t op)
 {
-    return op == MAPD || op == INVALL || op == MOVALL;
+    return op == MOVALL || (op == MAPD && s->mapped > SHORT) ||
+           (op == INVALL && s->mapped * s->gic->num_cpu > SHORT);
 }
 
 static void note(BacciledruIts *s, const struct its_step_out *out, uint64_t place,
@@ -30,8 +34,11 @@ static void note(BacciledruIts *s, const struct its_step_out *out, uint64_t plac
     Refusal *it;
 
     trace_bacciledru_step(place, out->op, out->outcome, out->reason);
+    if (out->outcome == ITS_OUTCOME_RAN) {
+        s->counters.ran++;
+        s->mapped += out->op == MAPTI || out->op == MAPI;
+    }
     if (out->outcome != ITS_OUTCOME_REFUSED) {
-        s->counters.ran += out->outcome == ITS_OUTCOME_RAN;
         return;
     }
     it = &s->refusals[s->counters.refused++ % REFUSALS];
@@ -90,7 +97,7 @@ static Taken step(BacciledruIts *s, bool brief, uint64_t *concerned)
     if (answer != ITS_OUTSIDE && !bacciledru_done(s, "its_write_memory", answer)) {
         return NO_MEMORY;
     }
-    return brief && is_long(command[0]) ? LONG_ONE : take(s, command, concerned);
+    return brief && is_long(s, command[0]) ? LONG_ONE : take(s, command, concerned);
 }
 
 static void take_slice(BacciledruIts *s, bool brief)
