@@ -33,7 +33,7 @@ class Bare:
     """
 
     def __init__(self, work, name, library, more=(), processors=1, record=False):
-        self.vm = Vm(work, name, library, processors=processors, memory=256, kernel=None, nvme=False, disks=(),
+        self.vm = Vm(work, name, library, processors=processors, memory=256, linux=False, nvme=False, disks=(),
                      more=[*more, "-S"], record=record)
         vm = self.vm
         self.place = 0
@@ -190,7 +190,7 @@ def without_linux(work, name, library):
     vm.deliver(False)
     for i in range(count):
         machine.signal(i)
-    vm, told = saving.moved_to(vm, work, name + "-1", kernel=None, processors=count, memory=256, disks=())
+    vm, told = saving.moved_to(vm, work, name + "-1", linux=False, processors=count, memory=256, disks=())
     machine.vm = vm
     vm.deliver(True)
     for i in range(count):

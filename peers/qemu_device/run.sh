@@ -102,8 +102,7 @@ preload() {
     cd "$1/build"
     [ -e build.ninja ] || ../qemu/configure $features --target-list=aarch64-softmmu
     nice ninja -j "${JOBS:-2}" libcommon.fa.p/hw_intc_arm_gicv3_its_common.c.o
-    cp "$here"/device/*.[ch] "$here"/{watch,watch_cpu,written_pages,preload}.c "$here/../../include/its.h" \
-        "$here/../../examples/monitor/heap.c" "$of/"
+    cp "$here"/device/*.[ch] "$here"/{watch,watch_cpu,written_pages,preload}.c "$here/../../include/its.h" "$of/"
     mv "$of/arm_gicv3_lpi_ops.h" "$of/hw/intc/"
     sed -n 's/^\(bacciledru_[a-z_]*\)(.*/#define trace_\1(...) ((void)0)/p' "$here/wire.py" >"$of/hw/intc/trace.h"
     flags="-DPRELOADED -std=gnu11 -O2 -fPIC -fno-strict-aliasing -fwrapv -pthread -D_GNU_SOURCE -iquote $of -iquote . -I.

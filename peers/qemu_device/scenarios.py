@@ -3,7 +3,7 @@
 
 usage: scenarios.py DIR [library|own|both [NAME ..]]
 
-Without names all are run but those of other kernels (run.sh kernels), and `stress`, which takes SECONDS_OF_STRESS, an hour where the environment doesn't say it.
+Without names all are run but `stress`, which takes SECONDS_OF_STRESS, an hour where the environment doesn't say it.
 With PATIENCE in the environment each watchdog waits so many times as long: for a host with much other work.
 DIR is that of `run.sh build`. What a guest wrote, QEMU's log of guest errors and the record of the library stand in
 DIR/NAME-TRANSLATOR.*. A scenario fails where a device doesn't answer in time (the watchdog), where an interrupt isn't
@@ -72,20 +72,6 @@ def others(work, name, library):
         if leg == "max":
             vm.end()
     return vm, "; ".join(told)
-
-
-def kernel(which):
-    """A boot, interrupts moved and a processor off and on, with another kernel (run.sh kernels)."""
-    def scenario(work, name, library):
-        vm = Vm(work, name, library, kernel="-" + which)
-        linux, seconds = vm.ready()
-        alive(vm, 0)
-        vm.run("move 8; processor 2 0; work 64; processor 2 1; again virtio virtio_rng virtio; work 96")
-        quiet(vm)
-        return vm, summary(vm, f", {seconds:.0f} s, {linux}")
-    scenario.__name__ = "kernel-" + which
-    scenario.__doc__ = f"kernel {which}"
-    return scenario
 
 
 def reset(work, name, library):
@@ -211,7 +197,6 @@ SCENARIOS = [boot, many_processors, bridges, others, moves, processors, drivers,
              saving.cancelled, saving.postcopy, saving.snapshot, saving.again, saving.foreign, saving.bad_tables,
              hibernation, suspend, kexec, bare.without_linux, bare.full_queue,
              bare.brief_commands, bare.more_memory, bare.overlap]
-KERNELS = [kernel(which) for which in ("5.10", "6.12", "7.2", "rt")]
 LONG = [stress]
 
 
@@ -236,9 +221,9 @@ def main():
     names = sys.argv[3:]
     print("| Scenario | ITS | Result | | Took |\n|---|---|---|---|---|")
     good = True
-    for scenario in SCENARIOS + KERNELS + LONG:
+    for scenario in SCENARIOS + LONG:
         for kind in kinds:
-            if scenario.__name__ in names or not names and scenario in SCENARIOS:
+            if scenario.__name__ in names or not names and scenario not in LONG:
                 good &= one(scenario, work, kind)
     sys.exit(not good)
 

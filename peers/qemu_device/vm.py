@@ -18,12 +18,12 @@ class Vm:
     """`library` chooses the translator. With `times`, a file, times are kept and no record.
 
     QEMU doesn't migrate an NVMe device, so a guest that is to be saved has none. Disks answer after `latency` ns. Each
-    of `disks` is a file, or None for an empty one; with `ports` each has a port of its own. `kernel` is the end of the
-    names of another kernel's files; with None there is no guest, and what is written to RAM runs (bare.py).
+    of `disks` is a file, or None for an empty one; with `ports` each has a port of its own. Without `linux` there is
+    no guest, and what is written to RAM runs (bare.py).
     """
 
     def __init__(self, work, name, library, processors=4, memory=512, disks=(None, None), more=(), incoming=None,
-                 words="", times=None, nvme=True, latency=0, kernel="", ports=False, machine="", reboot=False,
+                 words="", times=None, nvme=True, latency=0, linux=True, ports=False, machine="", reboot=False,
                  record=True):
         self.base = os.path.join(work, name)
         self.library = library
@@ -32,7 +32,7 @@ class Vm:
         for suffix in (".serial", ".qmp", ".qtest"):
             if os.path.exists(self.base + suffix):
                 os.unlink(self.base + suffix)
-        line = self.machine_words(work, processors, memory, machine) + self.guest_words(work, kernel, words)
+        line = self.machine_words(work, processors, memory, machine) + self.guest_words(work, linux, words)
         line += [] if reboot else ["-no-reboot"]
         line += self.disk_words(processors, disks, nvme, latency, ports)
         line += (["-incoming", incoming] if incoming else []) + list(more)
@@ -54,10 +54,10 @@ class Vm:
                 "chardev:line", "-qmp", f"unix:{self.base}.qmp,server=on,wait=off", "-qtest",
                 f"unix:{self.base}.qtest,server=on,wait=off", "-qtest-log", "/dev/null"]
 
-    def guest_words(self, work, kernel, words):
-        if kernel is None:          # the first processor begins where RAM does
+    def guest_words(self, work, linux, words):
+        if not linux:               # the first processor begins where RAM does
             return ["-device", f"loader,addr={RAM:#x},cpu-num=0"]
-        return ["-kernel", f"{work}/vmlinuz{kernel}", "-initrd", f"{work}/initrd{kernel}.gz", "-append",
+        return ["-kernel", f"{work}/vmlinuz", "-initrd", f"{work}/initrd.gz", "-append",
                 f"console=ttyAMA0 quiet panic=-1 no_console_suspend patience={PATIENCE} " + words]
 
     def disk_words(self, processors, disks, nvme, latency, ports):

@@ -173,7 +173,7 @@ def build_lines(name, watch):
     lines = ["bacciledru = declare_dependency(link_args: [meson.current_source_dir() / 'libits_c.a'])",
              f"{name}.add(when: 'CONFIG_ARM_GICV3_TCG', if_true: [files(",
              *(f"  '{it}'," for it in sorted(os.listdir(os.path.join(HERE, "device"))) if it.endswith(".c")),
-             "  'heap.c'), bacciledru])"]
+             "), bacciledru])"]
     if watch:
         with open(os.path.join(HERE, "watch.c")) as f:
             words = WATCHED + re.findall(r"^REAL\((its_\w+)\);", f.read(), re.M)
@@ -210,7 +210,6 @@ def main():
     for name in ["watch.c", "watch_cpu.c", "written_pages.c"] if args.watch else []:
         copy(os.path.join(HERE, name), os.path.join(folder, name))
     copy(os.path.join(TOP, "include", "its.h"), os.path.join(folder, "its.h"))
-    copy(os.path.join(TOP, "examples", "monitor", "heap.c"), os.path.join(folder, "heap.c"))
     shutil.copy2(args.archive, os.path.join(folder, "libits_c.a"))
     name = "system_ss" if "system_ss" in build else "softmmu_ss"
     write(os.path.join(folder, "meson.build"), build_lines(name, args.watch))
