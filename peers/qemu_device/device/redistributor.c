@@ -39,19 +39,39 @@ static void copy_for(BacciledruIts *s, GICv3CPUState *cs, hwaddr offset, uint64_
     }
 }
 
-/* Out of memory LPIs stay off, and GICR_CTLR reads so. */
-static void write_lpi_register(DeviceState *its, GICv3CPUState *cs, hwaddr offset, unsigned size,
-                               uint64_t value)
+static void write_one(BacciledruIts *s, int vcpu, hwaddr offset, unsigned size, uint64_t value)
 {
-    BacciledruIts *s = BACCILEDRU_ITS(its);
-    int vcpu = number_of(cs);
-
-    trace_bacciledru_lpi_register(vcpu, offset, value);
-    copy_for(s, cs, offset, value);
     bacciledru_done(s, "its_write_lpi_register",
                     its_write_lpi_register(s->handle, vcpu, offset, size, value));
     bacciledru_keep_lpi_registers(s, vcpu);
     bacciledru_update_line(s, vcpu);
+}
+
+/*
+ * Out of memory LPIs stay off, and GICR_CTLR reads so. GICR_INVLPIR and GICR_INVALLR are written for
+ * all processors that have the same configuration table: a Linux writes them at the processor that
+ * has the LPI, and nothing more when MOVI takes it to another.
+ */
+static void write_lpi_register(DeviceState *its, GICv3CPUState *cs, hwaddr offset, unsigned size,
+                               uint64_t value)
+{
+    BacciledruIts *s = BACCILEDRU_ITS(its);
+    hwaddr whole = offset & ~7ULL;
+
+    trace_bacciledru_lpi_register(number_of(cs), offset, value);
+    copy_for(s, cs, offset, value);
+    if (whole != GICR_INVLPIR && whole != GICR_INVALLR) {
+        write_one(s, number_of(cs), offset, size, value);
+        return;
+    }
+    for (int i = 0; i < s->gic->num_cpu; i++) {
+        GICv3CPUState *other = &s->gic->cpu[i];
+
+        if (other == cs || ((other->gicr_ctlr & GICR_CTLR_ENABLE_LPIS) &&
+                            bacciledru_config_of(other) == bacciledru_config_of(cs))) {
+            write_one(s, i, offset, size, value);
+        }
+    }
 }
 
 static void acknowledge(DeviceState *its, GICv3CPUState *cs, int intid)
