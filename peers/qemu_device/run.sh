@@ -2,6 +2,8 @@
 # A QEMU with the library's ITS inside, beside its own, and a Linux on it. README.md says what for.
 #
 # usage: run.sh build DIR ARCHIVE      fetches and builds qemu-system-aarch64 and the guest; ARCHIVE is libits_c.a
+#        run.sh preload DIR ARCHIVE    instead: the device for the qemu-system-aarch64 that is installed, and the guest
+#        run.sh patch QEMU ARCHIVE     prints what is put into the files of a tree of QEMU, as a patch
 #        run.sh boot DIR library|own   boots the guest, with a shell on this terminal
 #        run.sh scenarios DIR [library|own [NAME ..]]          runs scenarios, and prints a table
 #        run.sh check DIR PROGRAM [NAME ..]        whether what the library answered in a scenario is the plain translator's
@@ -52,11 +54,11 @@ fetch() {
 }
 
 build_qemu() {
-    python3 "$here/wire.py" "$1/qemu" "$2"
+    python3 "$here/wire.py" "$1/qemu" "$2" --watch
     mkdir -p "$1/build"
     cd "$1/build"
     [ -e build.ninja ] || ../qemu/configure $features
-    rm -f qemu-system-aarch64
+    rm -f qemu-system-aarch64 "$1/qemu-system-aarch64"
     nice ninja -j "${JOBS:-2}" qemu-system-aarch64
     ln -sf build/qemu-system-aarch64 "$1/qemu-system-aarch64"
 }
@@ -89,9 +91,49 @@ build() {
     build_qemu "$1" "$2"
 }
 
+# The device as a shared object that is loaded before Debian's QEMU, whose sources have the headers. Of its own build
+# only the headers that it generates are made.
+preload() {
+    local of=$1/preload name flags target
+    lists "$1"
+    fetch "$1"
+    build_guest "$1"
+    mkdir -p "$1/build" "$of/hw/intc"
+    cd "$1/build"
+    [ -e build.ninja ] || ../qemu/configure $features --target-list=aarch64-softmmu
+    nice ninja -j "${JOBS:-2}" libcommon.fa.p/hw_intc_arm_gicv3_its_common.c.o
+    cp "$here"/device/*.[ch] "$here"/{watch,watch_cpu,written_pages,preload}.c "$here/../../include/its.h" "$of/"
+    mv "$of/arm_gicv3_lpi_ops.h" "$of/hw/intc/"
+    sed -n 's/^\(bacciledru_[a-z_]*\)(.*/#define trace_\1(...) ((void)0)/p' "$here/wire.py" >"$of/hw/intc/trace.h"
+    flags="-DPRELOADED -std=gnu11 -O2 -fPIC -fno-strict-aliasing -fwrapv -pthread -D_GNU_SOURCE -iquote $of -iquote . -I.
+        -Iqapi -iquote ../qemu -iquote ../qemu/include -iquote ../qemu/tcg/i386 -isystem ../qemu/linux-headers"
+    target="-DNEED_CPU_H -DCONFIG_TARGET=\"aarch64-softmmu-config-target.h\" -DCONFIG_DEVICES=\"aarch64-softmmu-config-devices.h\"
+        -I../qemu/target/arm"
+    for name in "$of"/*.c; do
+        case $name in *watch_cpu.c | *written_pages.c) ;; *) target= ;; esac
+        gcc $flags $target $(pkg-config --cflags glib-2.0 pixman-1) -c "$name" -o "${name%.c}.o"
+    done
+    gcc -shared -o "$1/device.so" "$of"/*.o $(sed -n 's/^REAL(\(its_[a-z_]*\));/-Wl,--wrap=\1/p' "$of/watch.c") "$2"
+    cp "$here/preloaded" "$1/qemu-system-aarch64"
+}
+
+# What wire.py does to a tree of QEMU that it did nothing to yet, but for the device's own files.
+patch_of() {
+    local two part
+    two=$(mktemp -d)
+    mkdir "$two/a" "$two/b"
+    for part in hw/intc hw/arm include/hw/arm include/hw/intc configs/devices; do
+        (cd "$1" && cp -r --parents "$part" "$two/a" && cp -r --parents "$part" "$two/b")
+    done
+    python3 "$here/wire.py" "$two/b" "$2"
+    (cd "$two" && diff -ru a b | grep -v '^Only in') || true
+    rm -r "$two"
+}
+
 boot() {
-    [ "$2" = own ] || export ITS_LIBRARY=1
-    exec "$1/qemu-system-aarch64" -M virt,gic-version=3,its=on -cpu cortex-a57 -smp 4 -m 512 -nographic -nodefaults \
+    local its=
+    [ "$2" = own ] || its=,its-device=arm-gicv3-its-bacciledru
+    exec "$1/qemu-system-aarch64" -M "virt,gic-version=3,its=on$its" -cpu cortex-a57 -smp 4 -m 512 -nographic -nodefaults \
         -serial mon:stdio -kernel "$1/vmlinuz" -initrd "$1/initrd.gz" -append "console=ttyAMA0 panic=-1" \
         -blockdev driver=null-co,size=1073741824,read-zeroes=on,node-name=disk -device virtio-blk-pci,drive=disk,num-queues=4 \
         -netdev user,id=net -device virtio-net-pci,netdev=net,romfile= -device virtio-rng-pci
@@ -114,9 +156,11 @@ check() {
 
 case "${1:-}" in
 build) mkdir -p "$2" && build "$(realpath "$2")" "$(realpath "$3")" ;;
+preload) mkdir -p "$2" && preload "$(realpath "$2")" "$(realpath "$3")" ;;
+patch) patch_of "$(realpath "$2")" "$(realpath "$3")" ;;
 boot) boot "$2" "$3" ;;
 scenarios) exec python3 "$here/scenarios.py" "$(realpath "$2")" "${@:3}" ;;
 check) check "$(realpath "$2")" "${@:3}" ;;
 speed) exec python3 "$here/speed.py" "$(realpath "$2")" "${@:3}" ;;
-*) sed -n '4,8s/^# //p' "$0" >&2 && exit 2 ;;
+*) sed -n '4,10s/^# //p' "$0" >&2 && exit 2 ;;
 esac

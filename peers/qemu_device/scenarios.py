@@ -13,44 +13,10 @@ import os
 import sys
 import time
 
+import bare
+import saving
+from checks import Failed, alive, need, quiet, summary
 from vm import PATIENCE, Vm
-
-
-LATENCY = 5000000       # of disks of a guest that is saved, in ns, so that requests are on their way as it stops
-
-
-class Failed(Exception):
-    pass
-
-
-def need(true, text):
-    if not true:
-        raise Failed(text)
-
-
-def total(counts):
-    return sum(sum(each) for each in counts.values())
-
-
-def alive(vm, first):
-    """Work for all devices, whose interrupts are all counted on."""
-    before = vm.interrupts()
-    vm.run(f"work {first}")
-    after = vm.interrupts()
-    need(set(before) <= set(after), f"interrupts are gone: {set(before) - set(after)}")
-    need(total(after) > total(before), "no interrupt was counted")
-    return after
-
-
-def quiet(vm):
-    """Nothing that a translator wrote to QEMU's log: a dropped signal, a refused command."""
-    errors = vm.guest_errors()
-    need(not errors, f"{len(errors)} guest errors: {errors[:3]}")
-
-
-def summary(vm, more=""):
-    counts = vm.interrupts()
-    return f"{len(counts)} interrupts, {total(counts)} counted{more}"
 
 
 def boot(work, name, library):
@@ -62,6 +28,65 @@ def boot(work, name, library):
     need(all(used), f"a processor had none: {used}")
     quiet(vm)
     return vm, summary(vm, f", {seconds:.0f} s, Linux {linux.split()[0]}")
+
+
+def many_processors(work, name, library):
+    """64 processors, a disk of 64 queues"""
+    vm = Vm(work, name, library, processors=64, memory=1024, disks=(None,), nvme=False)
+    linux, seconds = vm.ready(900)
+    some = (0, 17, 40, 63)
+    for cpu in some:
+        vm.run(f"reads {cpu} 0")
+    vm.run("timeout $long ping -c 1 -W $long 10.0.2.2 >/dev/null || echo 'guest: HANGS network'")
+    counts = vm.interrupts()
+    without = [cpu for cpu in some if not any(each[cpu] for each in counts.values())]
+    need(not without, f"processors {without} had none")
+    quiet(vm)
+    return vm, summary(vm, f", {seconds:.0f} s, {linux}")
+
+
+def bridges(work, name, library):
+    """devices behind bridges, and one on a thread of its own"""
+    more = ["-object", "iothread,id=thread", "-device", "pcie-root-port,id=port9,chassis=9", "-blockdev",
+            "driver=null-co,size=1073741824,read-zeroes=on,node-name=disk9", "-device",
+            "virtio-blk-pci,drive=disk9,bus=port9,iothread=thread"]
+    vm = Vm(work, name, library, ports=True, more=more)
+    vm.ready()
+    alive(vm, 0)
+    vm.run("move 4; work 32; move 2; work 64")
+    said = vm.run("ls /sys/bus/pci/devices")
+    need("0000:03:00.0" in said, f"devices: {said}")
+    quiet(vm)
+    return vm, summary(vm)
+
+
+def others(work, name, library):
+    """8 GiB and gic-version=max; then its=off"""
+    told = []
+    for leg, machine in (("max", ",gic-version=max"), ("off", ",its=off")):
+        vm = Vm(work, f"{name}-{leg}", library, memory=8192, machine=machine)
+        vm.ready()
+        vm.run("work 0")
+        told.append(f"{machine[1:]}: {len(vm.interrupts())} interrupts")
+        quiet(vm)
+        if leg == "max":
+            vm.end()
+    return vm, "; ".join(told)
+
+
+def reset(work, name, library):
+    """stopped and set going again under load, and then a reset"""
+    vm = Vm(work, name, library, reboot=True)
+    vm.ready()
+    vm.run("load")
+    for _ in range(5):
+        vm.qmp("stop")
+        vm.qmp("cont")
+    vm.run("true")
+    vm.qmp("system_reset")
+    vm.ready()
+    alive(vm, 0)
+    return vm, summary(vm)
 
 
 def moves(work, name, library):
@@ -101,86 +126,16 @@ def drivers(work, name, library):
     return vm, summary(vm)
 
 
-def waiting(vm):
-    """How many LPIs wait while none are delivered: the guest reads from all disks, and what they send stays pending."""
-    vm.deliver(False)
-    time.sleep(1)
-
-
-def moved_to(vm, work, name):
-    """The virtual machine goes on in another process, and with the same state. It tells for how long it stood still."""
-    path = f"{work}/{name}.socket"
-    target = Vm(work, name, vm.library, incoming=f"unix:{path}", nvme=False, latency=LATENCY)
-    vm.qmp("migrate", uri=f"unix:{path}")
-    end = time.time() + 120 * PATIENCE
-    while vm.qmp("query-migrate").get("status") not in ("completed", "failed"):
-        need(time.time() < end, "watchdog: the migration doesn't end")
-        time.sleep(0.05)
-    answer = vm.qmp("query-migrate")
-    need(answer["status"] == "completed", f"the migration {answer['status']}: {target.errors()}")
-    while target.qmp("query-status")["status"] != "running":
-        need(time.time() < end, "watchdog: the target doesn't run")
-        time.sleep(0.05)
-    told = f", {answer['downtime']} ms"
-    if vm.library:
-        saves = [state for state in vm.states() if state[0] == "saved"]
-        need(saves[-1][1:] == target.states()[0][1:], f"the state was {saves[-1]}, and is {target.states()[0]}")
-        told += f" ({len(saves)} saves, {saves[-1][2]} pending, state {saves[-1][1][:8]} on both sides)"
-    vm.end()
-    return target, told
-
-
-def migration(work, name, library):
-    """migration under load: LPIs pending, and then requests on their way"""
-    vm = Vm(work, name + "-0", library, nvme=False, latency=LATENCY)
-    vm.ready()
-    vm.run("load")
-    waiting(vm)
-    vm, first = moved_to(vm, work, f"{name}-1")
-    vm.deliver(True)
-    vm.run("sleep 2")
-    vm, second = moved_to(vm, work, f"{name}-2")
-    vm.run("unload")
-    alive(vm, 32)
-    vm.run("move 8; processor 2 0; work 64; processor 2 1; again virtio virtio_rng virtio; work 96")
-    quiet(vm)
-    return vm, summary(vm, first + second)
-
-
-def snapshot(work, name, library):
-    """savevm and loadvm under load, LPIs pending"""
-    vm = Vm(work, name, library, nvme=False, latency=LATENCY)
-    vm.ready()
-    vm.snapshots(f"{work}/{name}.qcow2")
-    vm.run("load")
-    waiting(vm)
-    vm.job("snapshot-save", tag="one", vmstate="snapshots", devices=["snapshots"])
-    vm.deliver(True)
-    vm.run("unload; move 4; processor 3 0; work 64")
-    vm.job("snapshot-load", tag="one", vmstate="snapshots", devices=["snapshots"])
-    vm.qmp("cont")
-    vm.deliver(True)
-    told = ""
-    if library:
-        states = vm.states()
-        restored = states[[state[0] for state in states].index("restored")]
-        need(("saved", *restored[1:]) in states, f"states: {states}")
-        told = f", {restored[2]} pending, state {restored[1][:8]} on both sides"
-    vm.run("unload")
-    alive(vm, 32)
-    quiet(vm)
-    return vm, summary(vm, told)
-
-
 def hibernation(work, name, library):
-    """hibernation, and on from the image"""
+    """hibernation three times, and on from the image"""
     disk = f"{work}/{name}.disk"
     with open(disk, "wb") as f:
         f.truncate(1 << 30)
-    vm = Vm(work, name, library, memory=256, disk=disk)
+    vm = Vm(work, name, library, memory=256, disks=(disk, None))
     vm.ready()
     vm.run("mkswap /dev/vda >/dev/null; swapon /dev/vda; echo test_resume >/sys/power/disk")
-    vm.run("echo disk >/sys/power/state; dmesg | grep -i hibernation", 300)
+    for _ in range(3):
+        vm.run("echo disk >/sys/power/state; dmesg | grep -i hibernation", 300)
     alive(vm, 32)
     vm.run("processor 1 0; work 64; processor 1 1; work 96")
     quiet(vm)
@@ -198,23 +153,24 @@ def suspend(work, name, library):
 
 
 def kexec(work, name, library):
-    """a second kernel by kexec"""
+    """a second and a third kernel by kexec"""
     more = []
     for node, file in (("kernel", "vmlinuz"), ("first", "initrd.gz")):
         more += ["-blockdev", f"driver=file,filename={work}/{file},node-name={node},read-only=on", "-device",
                  f"virtio-blk-pci,drive={node}"]
     vm = Vm(work, name, library, more=more)
-    vm.ready()
-    vm.run("work 0; cat /dev/vdc >/tmp/vmlinuz; cat /dev/vdd >/tmp/initrd.gz")
     words = f"console=ttyAMA0 quiet panic=-1 patience={PATIENCE}"
-    vm.run(f"kexec -l /tmp/vmlinuz --initrd=/tmp/initrd.gz --mem-min=0x50000000 --append='{words}'")
-    vm.serial.sendall(b"kexec -e\n")
     vm.ready()
+    for _ in range(2):
+        vm.run("work 0; cat /dev/vdc >/tmp/vmlinuz; cat /dev/vdd >/tmp/initrd.gz")
+        vm.run(f"kexec -l /tmp/vmlinuz --initrd=/tmp/initrd.gz --mem-min=0x50000000 --append='{words}'")
+        vm.serial.sendall(b"kexec -e\n")
+        vm.ready()
     said = vm.run("dmesg | grep -c 'Booted with LPIs enabled'; dmesg | grep -ci 'failed to disable LPIs'")
     alive(vm, 32)
     vm.run("move 4; processor 2 0; work 64; processor 2 1; work 96")
     quiet(vm)
-    return vm, summary(vm, f", second kernel: {' '.join(said.split())}")
+    return vm, summary(vm, f", third kernel: {' '.join(said.split())}")
 
 
 def stress(work, name, library):
@@ -237,7 +193,10 @@ def stress(work, name, library):
     return vm, summary(vm, f", {rounds} rounds")
 
 
-SCENARIOS = [boot, moves, processors, drivers, migration, snapshot, hibernation, suspend, kexec]
+SCENARIOS = [boot, many_processors, bridges, others, moves, processors, drivers, reset, saving.migration,
+             saving.cancelled, saving.postcopy, saving.snapshot, saving.again, saving.foreign, saving.bad_tables,
+             hibernation, suspend, kexec, bare.without_linux, bare.full_queue,
+             bare.brief_commands, bare.more_memory, bare.overlap]
 LONG = [stress]
 
 
@@ -246,13 +205,14 @@ def one(scenario, work, kind):
     since = time.time()
     try:
         vm, told = scenario(work, name, kind == "library")
-        vm.end()
-        result = "works"
+        if vm:
+            vm.end()
+        result = "works" if vm else ""
     except (Failed, TimeoutError, EOFError, RuntimeError, OSError, LookupError,
             ValueError) as e:
         result, told = "FAILS", f"{type(e).__name__}: {' '.join(str(e).split())[-300:]}"
     print(f"| {scenario.__doc__} | {kind} | {result} | {told} | {time.time() - since:.0f} s |", flush=True)
-    return result == "works"
+    return result != "FAILS"
 
 
 def main():

@@ -7,6 +7,8 @@ import socket
 import subprocess
 import time
 
+DEVICE = "arm-gicv3-its-bacciledru"
+RAM = 0x40000000
 GICD_CTLR = 0x08000000
 GROUP_1 = 2
 PATIENCE = int(os.environ.get("PATIENCE", "1"))     # how many times as long each watchdog waits
@@ -15,19 +17,26 @@ PATIENCE = int(os.environ.get("PATIENCE", "1"))     # how many times as long eac
 class Vm:
     """`library` chooses the translator. With `times`, a file, times are kept and no record.
 
-    QEMU doesn't migrate an NVMe device, so a guest that is to be saved has none. Disks answer after `latency` ns.
+    QEMU doesn't migrate an NVMe device, so a guest that is to be saved has none. Disks answer after `latency` ns. Each
+    of `disks` is a file, or None for an empty one; with `ports` each has a port of its own. Without `linux` there is
+    no guest, and what is written to RAM runs (bare.py).
     """
 
-    def __init__(self, work, name, library, processors=4, memory=512, disk=None, more=(), incoming=None, words="",
-                 times=None, nvme=True, latency=0):
+    def __init__(self, work, name, library, processors=4, memory=512, disks=(None, None), more=(), incoming=None,
+                 words="", times=None, nvme=True, latency=0, linux=True, ports=False, machine="", reboot=False,
+                 record=True):
         self.base = os.path.join(work, name)
         self.library = library
+        self.record = record
         self.text = ""
         for suffix in (".serial", ".qmp", ".qtest"):
             if os.path.exists(self.base + suffix):
                 os.unlink(self.base + suffix)
-        self.process = subprocess.Popen(self.words(work, processors, memory, disk, more, incoming, words, nvme, latency),
-                                        stdin=subprocess.DEVNULL, stdout=open(self.base + ".err", "w"),
+        line = self.machine_words(work, processors, memory, machine) + self.guest_words(work, linux, words)
+        line += [] if reboot else ["-no-reboot"]
+        line += self.disk_words(processors, disks, nvme, latency, ports)
+        line += (["-incoming", incoming] if incoming else []) + list(more)
+        self.process = subprocess.Popen(line, stdin=subprocess.DEVNULL, stdout=open(self.base + ".err", "w"),
                                         stderr=subprocess.STDOUT, env=self.environment(times))
         atexit.register(self.process.kill)
         self.serial = self.connect(".serial")
@@ -36,29 +45,37 @@ class Vm:
         self.monitor.readline()
         self.qmp("qmp_capabilities")
 
-    def words(self, work, processors, memory, disk, more, incoming, words, nvme, latency):
+    def machine_words(self, work, processors, memory, machine):
+        its = f",its-device={DEVICE}" if self.library else ""
+        return [f"{work}/qemu-system-aarch64", "-M", f"virt,gic-version=3,its=on{its}{machine}", "-cpu", "cortex-a57",
+                "-smp", str(processors), "-m", str(memory), "-nodefaults", "-display", "none", "-d",
+                "guest_errors", "-D", self.base + ".log", "-chardev",
+                f"socket,id=line,path={self.base}.serial,server=on,wait=off,logfile={self.base}.console", "-serial",
+                "chardev:line", "-qmp", f"unix:{self.base}.qmp,server=on,wait=off", "-qtest",
+                f"unix:{self.base}.qtest,server=on,wait=off", "-qtest-log", "/dev/null"]
+
+    def guest_words(self, work, linux, words):
+        if not linux:               # the first processor begins where RAM does
+            return ["-device", f"loader,addr={RAM:#x},cpu-num=0"]
+        return ["-kernel", f"{work}/vmlinuz", "-initrd", f"{work}/initrd.gz", "-append",
+                f"console=ttyAMA0 quiet panic=-1 no_console_suspend patience={PATIENCE} " + words]
+
+    def disk_words(self, processors, disks, nvme, latency, ports):
         empty = f"driver=null-co,size=1073741824,read-zeroes=on,latency-ns={latency}"
-        disks = [f"driver=file,filename={disk}" if disk else empty, empty]
-        line = [f"{work}/qemu-system-aarch64", "-M", "virt,gic-version=3,its=on", "-cpu", "cortex-a57", "-smp",
-                str(processors), "-m", str(memory), "-nodefaults", "-display", "none", "-no-reboot", "-d", "guest_errors",
-                "-D", self.base + ".log", "-kernel", f"{work}/vmlinuz", "-initrd", f"{work}/initrd.gz", "-append",
-                f"console=ttyAMA0 quiet panic=-1 no_console_suspend patience={PATIENCE} " + words, "-chardev",
-                f"socket,id=line,path={self.base}.serial,server=on,wait=off,logfile={self.base}.console", "-serial", "chardev:line", "-qmp",
-                f"unix:{self.base}.qmp,server=on,wait=off", "-qtest", f"unix:{self.base}.qtest,server=on,wait=off",
-                "-qtest-log", "/dev/null"]
+        line = []
         for i, it in enumerate(disks):
-            line += ["-blockdev", f"{it},node-name=disk{i}", "-device",
-                     f"virtio-blk-pci,drive=disk{i},num-queues={processors}"]
+            bus = f",bus=port{i}" if ports else ""
+            line += ["-device", f"pcie-root-port,id=port{i},chassis={i + 1}"] if ports else []
+            line += ["-blockdev", f"{f'driver=file,filename={it}' if it else empty},node-name=disk{i}", "-device",
+                     f"virtio-blk-pci,drive=disk{i},num-queues={processors}{bus}"]
         if nvme:
             line += ["-blockdev", empty + ",node-name=disk2", "-device", "nvme,drive=disk2,serial=one"]
-        line += ["-netdev", "user,id=net", "-device", "virtio-net-pci,netdev=net,romfile=", "-device", "virtio-rng-pci"]
-        return line + (["-incoming", incoming] if incoming else []) + list(more)
+        return line + ["-netdev", "user,id=net", "-device", "virtio-net-pci,netdev=net,romfile=", "-device",
+                       "virtio-rng-pci"]
 
     def environment(self, times):
-        of_this = {"ITS_TIMES": times} if times else {"ITS_RECORD": self.base + ".record"}
-        if self.library:
-            of_this["ITS_LIBRARY"] = "1"
-        return {**os.environ, **of_this}
+        kept = {"ITS_TIMES": times} if times else {"ITS_RECORD": self.base + ".record"} if self.record else {}
+        return {**os.environ, **kept}
 
     def connect(self, suffix):
         for _ in range(300):
@@ -111,6 +128,14 @@ class Vm:
         self.job("blockdev-create", options={"driver": "qcow2", "file": "snapshots-file", "size": 1 << 20})
         self.qmp("blockdev-add", **{"driver": "qcow2", "file": "snapshots-file", "node-name": "snapshots"})
 
+    def info(self):
+        """What the device tells of itself, without its name."""
+        return self.qmp("human-monitor-command", **{"command-line": "info pic"}).split(DEVICE + ":")[-1]
+
+    def told(self, pattern):
+        """A number in what the device tells."""
+        return int(re.search(pattern + r"\D*(\d+)", self.info())[1])
+
     def of_bus(self, line):
         self.bus.write(line + "\n")
         self.bus.flush()
@@ -120,6 +145,15 @@ class Vm:
         """Whether the distributor gives interrupts of group 1 to processors. What comes meanwhile stays pending."""
         value = int(self.of_bus(f"readl {GICD_CTLR:#x}")[1], 16)
         self.of_bus(f"writel {GICD_CTLR:#x} {value | GROUP_1 if on else value & ~GROUP_1:#x}")
+
+    def load(self, address):
+        return int(self.of_bus(f"readq {address:#x}")[1], 16)
+
+    def store(self, address, value):
+        self.of_bus(f"writeq {address:#x} {value:#x}")
+
+    def store_bytes(self, address, data):
+        self.of_bus(f"write {address:#x} {len(data):#x} 0x{data.hex()}")
 
     def wait(self, pattern, seconds):
         """What the guest writes before the pattern. The watchdog ends a guest that doesn't."""
@@ -154,10 +188,11 @@ class Vm:
     def interrupts(self):
         """Of each interrupt that goes through the ITS: how often each processor had it."""
         found = {}
-        for line in self.run("grep ITS /proc/interrupts").splitlines():
+        for line in self.run("grep ITS- /proc/interrupts").splitlines():
             fields = line.split()
-            if "ITS-MSI" in fields:
-                found[fields[-1]] = [int(count) for count in fields[1:fields.index("ITS-MSI")]]
+            chip = [i for i, field in enumerate(fields) if field.startswith("ITS-")]
+            if chip:
+                found[fields[-1]] = [int(count) for count in fields[1:chip[0]]]
         return found
 
     def ended(self, seconds):

@@ -14,7 +14,7 @@
 #include "qemu/timer.h"
 #include "exec/memory.h"
 #include "hw/intc/arm_gicv3_its_common.h"
-#include "gicv3_internal.h"
+#include "hw/intc/gicv3_internal.h"
 #include "its.h"
 
 #define REAL(call) extern typeof(call) __real_##call, __wrap_##call

@@ -1,0 +1,36 @@
+"""What each scenario looks at."""
+LATENCY = 5000000       # of disks of a guest that is saved, in ns, so that requests are on their way as it stops
+
+
+class Failed(Exception):
+    pass
+
+
+def need(true, text):
+    if not true:
+        raise Failed(text)
+
+
+def total(counts):
+    return sum(sum(each) for each in counts.values())
+
+
+def alive(vm, first):
+    """Work for all devices, whose interrupts are all counted on."""
+    before = vm.interrupts()
+    vm.run(f"work {first}")
+    after = vm.interrupts()
+    need(set(before) <= set(after), f"interrupts are gone: {set(before) - set(after)}")
+    need(total(after) > total(before), "no interrupt was counted")
+    return after
+
+
+def quiet(vm):
+    """Nothing that a translator wrote to QEMU's log: a dropped signal, a refused command."""
+    errors = vm.guest_errors()
+    need(not errors, f"{len(errors)} guest errors: {errors[:3]}")
+
+
+def summary(vm, more=""):
+    counts = vm.interrupts()
+    return f"{len(counts)} interrupts, {total(counts)} counted{more}"
