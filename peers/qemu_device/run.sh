@@ -94,13 +94,14 @@ build() {
 # The device as a shared object that is loaded before Debian's QEMU, whose sources have the headers. Of its own build
 # only the headers that it generates are made.
 preload() {
-    local of=$1/preload name flags target
-    lists "$1"
+    local of=$1/preload name flags target more
     fetch "$1"
     build_guest "$1"
     mkdir -p "$1/build" "$of/hw/intc"
     cd "$1/build"
-    [ -e build.ninja ] || ../qemu/configure $features --target-list=aarch64-softmmu
+    [ -e ../qemu/configs/devices/aarch64-softmmu/its.mak ] ||
+        echo CONFIG_ARM_VIRT=y >../qemu/configs/devices/aarch64-softmmu/its.mak
+    [ -e build.ninja ] || ../qemu/configure $features
     nice ninja -j "${JOBS:-2}" libcommon.fa.p/hw_intc_arm_gicv3_its_common.c.o
     cp "$here"/device/*.[ch] "$here"/{watch,watch_cpu,written_pages,preload}.c "$here/../../include/its.h" "$of/"
     mv "$of/arm_gicv3_lpi_ops.h" "$of/hw/intc/"
@@ -110,8 +111,8 @@ preload() {
     target="-DNEED_CPU_H -DCONFIG_TARGET=\"aarch64-softmmu-config-target.h\" -DCONFIG_DEVICES=\"aarch64-softmmu-config-devices.h\"
         -I../qemu/target/arm"
     for name in "$of"/*.c; do
-        case $name in *watch_cpu.c | *written_pages.c) ;; *) target= ;; esac
-        gcc $flags $target $(pkg-config --cflags glib-2.0 pixman-1) -c "$name" -o "${name%.c}.o"
+        case $name in *watch_cpu.c | *written_pages.c) more=$target ;; *) more= ;; esac
+        gcc $flags $more $(pkg-config --cflags glib-2.0 pixman-1) -c "$name" -o "${name%.c}.o"
     done
     gcc -shared -o "$1/device.so" "$of"/*.o $(sed -n 's/^REAL(\(its_[a-z_]*\));/-Wl,--wrap=\1/p' "$of/watch.c") "$2"
     cp "$here/preloaded" "$1/qemu-system-aarch64"
