@@ -47,6 +47,12 @@ class Image:
         maps = self.maps
         return [intid for intid in self.pending(v) if maps.one_target(intid) == v]
 
+    def led(self, v):
+        """Those of them that some event leads to this processor: what counts with `from-kvm`."""
+        maps = self.maps
+        there = {intid for _, _, intid, icid in maps.all_events() if maps.target(icid) == v}
+        return [intid for intid in self.pending(v) if intid in there]
+
     def unmapped(self):
         """The ICIDs that have an entry and aren't mapped."""
         return [icid for icid, target in self.maps.collections.items() if target == layout.UNMAPPED]

@@ -8,6 +8,7 @@ from compare import Report
 from image import Image
 
 STALE = "pending bits of LPIs that no event sends to this processor: KVM leaves them, and reads none"
+SECOND = "pending bits at the processor of an LPI's second event: KVM reads those of the first's alone"
 SHARED = "two events of one LPI: KVM sends both to the processor of the first"
 LOST = "an event's `next` leads to one that lost its collection, whose entry KVM writes as zero"
 PASSED = "an event's `next` leads past the second event of an LPI: KVM 7.3 passes over it at a restore"
@@ -122,20 +123,20 @@ class Restored:
         return {maps.tables[d][0] + 8 * e for d, e, *_ in maps.all_events()} | set(maps.entries.values())
 
     def compare_pending(self, answers, report, tally, from_kvm):
-        """KVM has what its restore counts; here all bits count, or with `from-kvm` the same."""
+        """KVM has what its restore counts; here all bits do, or with `from-kvm` those that some event leads there."""
         here = Image(self.image.shape, report.words(self.bits), [], [])
         for v, (_, _, on) in enumerate(self.image.redistributors):
             if not on:
                 continue
             counts = self.image.counts(v)
             theirs, ours = answers[self.pending[v]].numbers, here.pending(v)
-            wanted = counts if from_kvm else self.image.pending(v)
+            wanted = self.image.led(v) if from_kvm else self.image.pending(v)
             if theirs != counts or ours != wanted:
                 tally.differ(self.script, f"pending at {v}: KVM {theirs}, of {counts}; here {ours}, of {wanted}")
                 continue
             tally.agree("pending tables")
             tally.counts["pending LPIs taken along"] += len(counts)
-            tally.named[STALE] += len(set(ours) - set(theirs))
+            tally.named[SECOND if from_kvm else STALE] += len(set(ours) - set(theirs))
 
     def first_target(self, intid):
         target = self.image.maps.one_target(intid)
