@@ -63,6 +63,21 @@ def lingering():
 
 
 @case
+def lingering_off():
+    """CLEAR, MOVI, a signal, and LPIs off at the old processor: KVM loses what is pending at the new one"""
+    s = Small("lingering_off")
+    s.event()
+    s.signal(16, 3)
+    s.command("clear", 16, 3)
+    s.command("movi", 16, 3, 2)
+    s.signal(16, 3)
+    s.redistributor_write(1, layout.GICR_CTLR, 0)
+    s.save(False)
+    s.see_pending(2, True)
+    return s
+
+
+@case
 def stale_devices():
     """BASER made not valid and valid again: KVM leaves what an earlier save wrote, and restores it"""
     s = Small("stale_devices")

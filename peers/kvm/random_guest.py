@@ -274,6 +274,9 @@ class Guest:
             self.turn_on(v)
             return
         self.clear(self.events(lambda d, e, intid, icid: self.target(icid) == v))
+        if self.careful:
+            # An LPI that was cleared and moved stays with its old processor until that one is inside, and goes with it.
+            self.script.operate("N")
         self.script.redistributor_write(v, layout.GICR_CTLR, 0, self.chance(0.7))
         self.script.redistributor_read(v, layout.GICR_CTLR)
         self.on[v] = False
