@@ -1,0 +1,5 @@
+pub mod Left
+pub mod Small
+pub mod Gone
+pub mod Legs
+pub mod Pending

@@ -1,0 +1,39 @@
+//! An answer put where a caller wants it.
+ghost use Rattle.std.specs.Prelude.{◌≡◌, ◌<◌, ◌≤◌, ◌++◌, ℕ, List, drop, length, take};
+ghost use Rattle.its_answers.specs.declared.status.Status.{Status as StatusOf};
+ghost use Rattle.its_web.specs.Answers.{IsCaused, IsGiven};
+
+use crate::answers::{Answer, number_of};
+use its_answers::refusal;
+
+/// Puts as much of an answer's text as there is room for, and its length.
+pub fn give(answer: &Answer, out: &mut [u8], len: &mut usize) -> u32
+    ensures { (causes : StatusOf → List ℕ → Type 0) → IsCaused causes answer.now
+        → IsGiven causes result out.old out.new len.new }
+{
+    match answer {
+        Answer::Answered(ending) => {
+            put(ending.line.as_bytes(), out, len);
+            number_of(ending.status)
+        }
+        Answer::Refused(status) => {
+            put(refusal(*status).as_bytes(), out, len);
+            number_of(*status)
+        }
+    }
+}
+
+fn put(text: &[u8], out: &mut [u8], len: &mut usize)
+    ensures len { len.new ≡ length text.now }
+    ensures whole { length text.now ≤ length out.old
+        → out.new ≡ text.now ++ drop (length text.now) out.old }
+    ensures part { length out.old < length text.now → out.new ≡ take (length out.old) text.now }
+{
+    let count = text.len();
+    *len = count;
+    if count <= out.len() {
+        out[..count].copy_from_slice(text);
+    } else {
+        out.copy_from_slice(&text[..out.len()]);
+    }
+}
