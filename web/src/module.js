@@ -1,6 +1,7 @@
-// The module: bytes in, bytes and a status out. Nothing is kept between two calls, so its heap begins anew with each.
+// The module: bytes in, bytes and a status out. Nothing is kept between two calls, so its heap
+// begins anew with each.
 
-// What the numbers of statuses mean: they are the exit statuses of the command `its`.
+// What the numbers of statuses mean: those of the exits of the command `its`.
 const STATUS = {
   0: "done",
   1: "the input is no script",
@@ -15,8 +16,7 @@ const STATUS = {
 
 async function openModule(bytes) {
   const { instance } = await WebAssembly.instantiate(bytes, {});
-  const { memory, page_alloc: alloc, page_reset: reset, its_web_run, its_web_explain, its_web_check } = instance.exports;
-  const calls = { run: its_web_run, explain: its_web_explain, check: its_web_check };
+  const { memory, page_alloc: alloc, page_reset: reset, ...calls } = instance.exports;
   const place = (size) => {
     const at = alloc(BigInt(size));
     if (at === 0n) throw new Error("the browser gives no more memory");
@@ -29,9 +29,12 @@ async function openModule(bytes) {
     const out = place(room);
     new Uint8Array(memory.buffer).set(input, Number(at));
     const turn = verb === "check" ? [] : [BigInt.asUintN(64, BigInt(order))];
-    const status = calls[verb](at, BigInt(input.length), ...turn, out, BigInt(room), length);
+    const call = calls["its_web_" + verb];
+    const status = call(at, BigInt(input.length), ...turn, out, BigInt(room), length);
     const size = Number(new DataView(memory.buffer).getBigUint64(Number(length), true));
-    return { status, size, bytes: size <= room ? new Uint8Array(memory.buffer).slice(Number(out), Number(out) + size) : null };
+    const all = new Uint8Array(memory.buffer);
+    const start = Number(out);
+    return { status, size, bytes: size <= room ? all.slice(start, start + size) : null };
   };
   // What the verb `run`, `explain` or `check` says of a text: a status and a text.
   return (verb, text, order = 0) => {

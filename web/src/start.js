@@ -22,23 +22,29 @@ function openExample(name) {
 
 // ---- links: the script in the fragment, packed by the browser
 
+function through(bytes, packer) {
+  return new Response(new Blob([bytes]).stream().pipeThrough(packer));
+}
+
 async function pack(text) {
-  const bytes = await new Response(new Blob([text]).stream().pipeThrough(new CompressionStream("deflate-raw"))).arrayBuffer();
+  const packed = await through(text, new CompressionStream("deflate-raw")).arrayBuffer();
   let binary = "";
-  for (const byte of new Uint8Array(bytes)) binary += String.fromCharCode(byte);
+  for (const byte of new Uint8Array(packed)) binary += String.fromCharCode(byte);
   return btoa(binary).replace(/\+/g, "-").replace(/\//g, "_").replace(/=+$/, "");
 }
 
 async function unpack(packed) {
-  const bytes = Uint8Array.from(atob(packed.replace(/-/g, "+").replace(/_/g, "/")), (c) => c.charCodeAt(0));
-  return new Response(new Blob([bytes]).stream().pipeThrough(new DecompressionStream("deflate-raw"))).text();
+  const binary = atob(packed.replace(/-/g, "+").replace(/_/g, "/"));
+  const bytes = Uint8Array.from(binary, (c) => c.charCodeAt(0));
+  return through(bytes, new DecompressionStream("deflate-raw")).text();
 }
 
 async function makeLink() {
   const script = $("script").value;
   const known = Object.keys(EXAMPLES).find((name) => EXAMPLES[name] === script);
-  const what = known === undefined ? "script=" + await pack(script) : "example=" + known;
-  history.replaceState(null, "", "#" + what + (state.script.many ? "&order=" + orderNow() : ""));
+  const what = known === undefined ? "script=" + (await pack(script)) : "example=" + known;
+  const order = state.script.many ? "&order=" + orderNow() : "";
+  history.replaceState(null, "", "#" + what + order);
   try {
     await navigator.clipboard.writeText(location.href);
     say("the link is copied", "good");
@@ -49,11 +55,12 @@ async function makeLink() {
 
 async function readLink() {
   const said = new URLSearchParams(location.hash.slice(1));
-  if (/^\d{1,19}$/.test(said.get("order") ?? "")) $("order").value = said.get("order");
+  const order = said.get("order") ?? "", script = said.get("script");
+  if (/^\d{1,19}$/.test(order)) $("order").value = order;
   openExample(said.get("example") ?? Object.keys(EXAMPLES)[0]);
-  if (said.get("script") === null) return;
+  if (script === null) return;
   try {
-    $("script").value = await unpack(said.get("script"));
+    $("script").value = await unpack(script);
     $("example").selectedIndex = -1;
   } catch {
     say("the link has no script that can be read", "bad");
@@ -62,34 +69,61 @@ async function readLink() {
 
 // ---- what is listened to
 
+function showPasting() {
+  state.pasting = !state.pasting;
+  $("pasted").hidden = !state.pasting;
+  $("checking").setAttribute("aria-expanded", String(state.pasting));
+  if (state.pasting) $("other").focus();
+  else run();
+}
+
+function fillPasted() {
+  const said = ask("run", $("script").value);
+  if (said !== null) $("other").value = said.text;
+}
+
+const REPORT_KEYS = {
+  ArrowDown: (i) => i + 1,
+  ArrowUp: (i) => i - 1,
+  PageDown: (i) => i + 20,
+  PageUp: (i) => i - 20,
+  Home: () => 0,
+  End: () => state.rows.length - 1,
+};
+
+const PICTURE_KEYS = {
+  ArrowRight: (i) => nextCall(i, 1),
+  ArrowLeft: (i) => nextCall(i, -1),
+  Home: () => nextCall(-1, 1),
+  End: () => nextCall(state.rows.length, -1),
+};
+
 function listen() {
-  for (const name of Object.keys(EXAMPLES)) $("example").add(new Option(name.replace(/_/g, " "), name));
-  $("example").addEventListener("change", () => { openExample($("example").value); run(); });
-  $("script").addEventListener("input", later);
-  $("script").addEventListener("scroll", drawLines);
-  $("script").addEventListener("click", chooseLine);
-  $("script").addEventListener("keyup", (event) => { if (event.key.startsWith("Arrow")) chooseLine(); });
-  $("order").addEventListener("input", run);
-  $("earlier").addEventListener("click", () => stepOrder(-1));
-  $("later").addEventListener("click", () => stepOrder(1));
-  $("link").addEventListener("click", makeLink);
-  $("checking").addEventListener("click", () => {
-    state.pasting = !state.pasting;
-    $("pasted").hidden = !state.pasting;
-    $("checking").setAttribute("aria-expanded", String(state.pasting));
-    if (state.pasting) $("other").focus(); else run();
-  });
-  $("check").addEventListener("click", check);
-  $("fill").addEventListener("click", () => { const said = ask("run", $("script").value); if (said !== null) $("other").value = said.text; });
-  $("report").addEventListener("scroll", drawRows);
-  $("scroller").addEventListener("scroll", drawPicture);
+  for (const name of Object.keys(EXAMPLES))
+    $("example").add(new Option(name.replace(/_/g, " "), name));
+  const on = (id, kind, what) => $(id).addEventListener(kind, what);
+  on("example", "change", () => { openExample($("example").value); run(); });
+  on("script", "input", later);
+  on("script", "scroll", drawLines);
+  on("script", "click", chooseLine);
+  on("script", "keyup", (event) => { if (event.key.startsWith("Arrow")) chooseLine(); });
+  on("order", "input", run);
+  on("earlier", "click", () => stepOrder(-1));
+  on("later", "click", () => stepOrder(1));
+  on("link", "click", makeLink);
+  on("checking", "click", showPasting);
+  on("check", "click", check);
+  on("fill", "click", fillPasted);
+  on("report", "scroll", drawRows);
+  on("report", "keydown", (event) => stepRow(event, REPORT_KEYS));
+  on("scroller", "scroll", drawPicture);
+  on("scroller", "keydown", (event) => stepRow(event, PICTURE_KEYS));
   addEventListener("resize", () => { drawLines(); drawRows(); drawPicture(); });
   addEventListener("hashchange", () => { readLink().then(run); });
-  document.addEventListener("click", (event) => { const box = event.target.closest("[data-row]"); if (box) choose(+box.dataset.row); });
-  $("report").addEventListener("keydown", (event) => stepRow(event, {
-    ArrowDown: (i) => i + 1, ArrowUp: (i) => i - 1, Home: () => 0, End: () => state.rows.length - 1, PageDown: (i) => i + 20, PageUp: (i) => i - 20 }));
-  $("scroller").addEventListener("keydown", (event) => stepRow(event, {
-    ArrowRight: (i) => nextCall(i, 1), ArrowLeft: (i) => nextCall(i, -1), Home: () => nextCall(-1, 1), End: () => nextCall(state.rows.length, -1) }));
+  document.addEventListener("click", (event) => {
+    const box = event.target.closest("[data-row]");
+    if (box) choose(+box.dataset.row);
+  });
 }
 
 listen();

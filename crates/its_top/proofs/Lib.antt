@@ -3,6 +3,7 @@ pub mod Sharing
 pub mod Playing
 pub mod Moving
 pub mod Runs
+pub mod Said
 pub mod Endings
 pub mod Checks
 pub mod Summaries

@@ -27,6 +27,7 @@ use Rattle.script_threads.specs.Asks.{MayRunLeg}
 use Rattle.script_threads.specs.Scripts.{IsOfDesc}
 use Rattle.script_threads.proofs.Scripts.{legs_may_run_so}
 use Rattle.its_answers.specs.Moves.{pages_of, move_line}
+use Rattle.its_answers.proofs.Told.{whole_moved, whole_cut, is_refused}
 use Rattle.its_top.proofs.Moving.{goes_on_with, is_moved}
 use Rattle.its_answers.specs.Answered.{IsLegSpent, LegStops, IsSpentEnding}
 use Rattle.its_top.specs.Answered.{LegGoes}

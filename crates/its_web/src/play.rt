@@ -1,17 +1,15 @@
 //! A leg of a script whose threads take turns.
-ghost use Rattle.std.specs.Prelude.{◌≡◌, ◌<◌, ◌≤◌, ◌+◌, ◌^◌, ℕ, Some, None, IfOk, IfSome, IfNone, length};
+ghost use Rattle.std.specs.Prelude.{◌≡◌, ◌<◌, ◌≤◌, ◌+◌, ◌^◌, IfOk, length};
 ghost use Rattle.std.specs.List.{AllByRecursion};
 ghost use Rattle.its_plain.specs.Answer.{answer};
-ghost use Rattle.trace_check.specs.Fields.{IsCounted, call_in};
 ghost use Rattle.trace_check.specs.Steps.{right_text};
 ghost use Rattle.its_web.specs.Played.{IsPlayed, IsLine};
 
-use crate::turns::Turns;
+use crate::turns::{Next, Turns, choose, count};
 use event_script::Phase;
 use its_history::{EntryLine, answered_text};
 use owned_machine::Machine;
 use std::alloc::{AllocError, Global};
-use trace_check::{Cursor, Next};
 
 /// The entries of a leg by place, and whether a call had no place left.
 #[derive(Drop)]
@@ -36,16 +34,19 @@ pub fn play_leg(
     ensures { IfOk result (λ p.
         IsPlayed last machine.old leg.now p.lines.items p.spent machine.new) }
 {
-    let mut cursor = Cursor::new(alloc, leg)?;
     let mut lines = Vec::new(alloc);
-    while let Some(next) = choose(&cursor, turns) {
-        let place = lines.len() as u64;
-        if place >= last {
-            return Ok(Played { lines, spent: true });
+    for (index, phase) in leg.iter().enumerate() {
+        let threads = phase.as_slice();
+        let mut made = vec![in alloc; 0; threads.len()]?;
+        while let Some(next) = choose(threads, &made, turns) {
+            let place = lines.len() as u64;
+            if place >= last {
+                return Ok(Played { lines, spent: true });
+            }
+            let line = make_call(alloc, machine, index, &next, place)?;
+            lines.push(line)?;
+            count(threads, made.as_mut_slice(), next.thread);
         }
-        let line = make_call(alloc, machine, cursor.number(), &next, place)?;
-        lines.push(line)?;
-        cursor.take(alloc, next.thread)?;
     }
     Ok(Played {
         lines,
@@ -53,35 +54,16 @@ pub fn play_leg(
     })
 }
 
-/// The next call of a thread that has one left, from the thread on that the next turn names.
-fn choose(cursor: &Cursor<'_>, turns: &mut Turns) -> Option<Next>
-    requires { IsCounted cursor.now }
-    ensures next { IfSome result (λ n. call_in cursor.now n.thread ≡ Some n.call) }
-    ensures none { IfNone result ((i : ℕ) → call_in cursor.now i ≡ None) }
-{
-    let count = cursor.threads().len();
-    if count > 1 {
-        let first = turns.next(count);
-        for step in 0..count {
-            let thread = (first + step) % count;
-            if let Some(call) = cursor.call_at(thread) {
-                return Some(Next { thread, call });
-            }
-        }
-    }
-    cursor.least()
-}
-
-/// Makes a call, and tells it and its reply.
+/// Makes a call of a phase, of which the first is 0, and tells it and its reply.
 fn make_call(
     alloc: Global,
     machine: &mut Machine,
-    phase: u64,
+    phase: usize,
     next: &Next,
     place: u64,
 ) -> Result<EntryLine, AllocError>
-    requires phase { phase < 2 ^ 32 }
-    requires thread { next.now.thread + 1 < 2 ^ 32 }
+    requires phase { phase < 256 }
+    requires thread { next.now.thread < 64 }
     ensures line { IfOk result (λ line.
         IsLine place phase next.now (right_text machine.old next.now.call) line) }
     ensures left { IfOk result (λ _. machine.new ≡ (answer machine.old next.now.call).1) }
@@ -90,7 +72,7 @@ fn make_call(
     let text = answered_text(alloc, &next.call, &reply)?;
     Ok(EntryLine {
         place,
-        phase: phase as u32,
+        phase: phase as u32 + 1,
         thread: next.thread as u32 + 1,
         text,
     })

@@ -37,7 +37,7 @@ placed_at n [] k line p lt is = absurd (omega arith)
 placed_at n (l ∷ ls) zero line p lt is = (λ i. (is i).place) ∙ (p.0 ∙ omega arith)
 placed_at n (l ∷ ls) (suc k) line p lt is = placed_at (n + 1) ls k line p.1 (omega arith) is ∙ omega arith
 
-pub lines_more : (s : ℕ → Seat) (n : ℕ) (h : List Entry) (e : Entry) → history_lines s n (h ++ e ∷ []) ≡ history_lines s n h ++ entry_line s (n + length h) e ∷ []
+lines_more : (s : ℕ → Seat) (n : ℕ) (h : List Entry) (e : Entry) → history_lines s n (h ++ e ∷ []) ≡ history_lines s n h ++ entry_line s (n + length h) e ∷ []
 lines_more s n [] e = let z : n ≡ n + 0 = omega arith in ap (λ k. entry_line s k e ∷ []) z
 lines_more s n (x ∷ h) e =
     let z : suc n + length h ≡ n + suc (length h) = omega arith in

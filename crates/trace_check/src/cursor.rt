@@ -78,7 +78,7 @@ impl<'a> Cursor<'a> {
     }
 
     /// The threads of its phase.
-    pub fn threads(&self) -> &'a [Thread]
+    fn threads(&self) -> &'a [Thread]
         ensures { result.now ≡ spec.threads_of self.now.phases.now }
     {
         match self.phases {
@@ -88,7 +88,7 @@ impl<'a> Cursor<'a> {
     }
 
     /// The next call of a thread, of which the first is 0.
-    pub fn call_at(&self, thread: usize) -> Option<Call>
+    fn call_at(&self, thread: usize) -> Option<Call>
         requires { IsCounted self.now }
         ensures { result ≡ call_in self.now thread }
     {
