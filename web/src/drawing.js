@@ -18,7 +18,7 @@ function layOut(rows) {
   return picture;
 }
 
-// Each call has a column, and so has each migration. Walls stand where phases and legs begin.
+// Each call has a column, and a leg's end has some. Walls stand where phases and legs begin.
 function placeColumns(rows) {
   const calls = [], walls = [], ends = [];
   let x = 0, phase = 0, threads = 1;
@@ -38,7 +38,7 @@ function placeColumns(rows) {
       row.x = x;
       ends.push(row);
     }
-    if (row.kind === "end" && row.line !== "done") x += 1;
+    if (row.kind === "end" && row.line !== "done") x += 4;
   }
   return { calls, walls, ends, threads, columns: x };
 }
@@ -226,7 +226,7 @@ function drawEvent(event, at, from, to) {
   if (y === null || b < a) return "";
   const parts = [
     `<rect class="bar" x="${a}" y="${y - 5}" width="${Math.max(2, b - a)}" height="10" rx="3"/>`,
-    text("small dim", a + 4, y - 7, "LPI " + event.lpi),
+    text("small dim", a + 5, y + 4, "LPI " + event.lpi),
   ];
   if (event.to !== null && event.to <= to)
     parts.push(line("cut", b, y - 8, b, y + 8), text("small dim", b + 4, y + 4, event.by));

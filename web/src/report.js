@@ -10,7 +10,8 @@ function readRows(text) {
   for (const line of text.split("\n")) {
     if (line === "") continue;
     if (line.startsWith("    ") && rows.length > 0) {
-      rows[rows.length - 1].why.push(line.trim());
+      const last = rows[rows.length - 1];
+      last.why.push(last.kind === "call" ? line.trim() : line.slice(4));
       continue;
     }
     const row = { line, why: [], index: rows.length, ...readRow(line, leg) };

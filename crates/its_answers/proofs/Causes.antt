@@ -3,7 +3,7 @@ use Rattle.std.proofs.Common.{ℕ, List, [], ◌∷◌, ◌++◌, codes, Option,
 use Rattle.its_plain.specs.Plain.{Plain}
 use Rattle.its_plain.specs.Runs.{IsPartialRun}
 use Rattle.event_script.specs.declared.script.Script.{Script}
-use Rattle.its_answers.specs.Checked.{CheckCauses}
+use Rattle.its_answers.specs.Checked.{CheckCauses, CheckSays}
 use Rattle.its_answers.specs.Its.{RunCauses, IsScript, OfScript, IsReport, IsMigrationRefusal, IsSpentReport, IsCutShort}
 use Rattle.its_answers.specs.Streams.{WasRead}
 use Rattle.its_answers.specs.Answered.{InputCauses, RunEnds, IsSoFar, StopsShort}

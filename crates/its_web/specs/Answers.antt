@@ -27,12 +27,24 @@ abbrev pub IsCaused : (Status → List ℕ → Type 0) → Answer → Type 0
 IsCaused causes (Answered e) = causes e.status (string_bytes e.line)
 IsCaused causes (Refused s) = causes s (refusal_text s)
 
--- a status and a text that are caused so: the status as its number, the text's length, and as much of it as there is room for
-pub record IsGiven (causes : Status → List ℕ → Type 0) (number : ℕ) (old new : List ℕ) (len : ℕ) : Type 0 where
-  pub status : Status
-  pub text : List ℕ
-  pub caused : causes status text
+abbrev pub status_of : Answer → Status
+status_of (Answered e) = e.status
+status_of (Refused s) = s
+
+abbrev pub text_of : Answer → List ℕ
+text_of (Answered e) = string_bytes e.line
+text_of (Refused s) = refusal_text s
+
+-- a status as its number, a text's length, and as much of the text as there is room for
+pub record IsPut (status : Status) (text : List ℕ) (number : ℕ) (old new : List ℕ) (len : ℕ) : Type 0 where
   pub number_is : number ≡ code status
   pub len_is : len ≡ length text
   pub whole : length text ≤ length old → new ≡ text ++ drop (length text) old
   pub part : length old < length text → new ≡ take (length old) text
+
+-- of a status and a text that are caused so
+pub record IsGiven (causes : Status → List ℕ → Type 0) (number : ℕ) (old new : List ℕ) (len : ℕ) : Type 0 where
+  pub status : Status
+  pub text : List ℕ
+  pub caused : causes status text
+  pub put : IsPut status text number old new len

@@ -22,7 +22,8 @@ pub extern "C" fn its_web_run(
 ) -> u32
     ensures { IsGiven (RunCauses (Some input.now) ⊥) result out.old out.new len.new }
 {
-    give(&run_answer(alloc, input, order), out, len)
+    let answer = run_answer(alloc, input, order);
+    give(&answer, out, len)
 }
 
 /// Explains a script's run, or a script and a report, as `its explain` does.
@@ -36,7 +37,8 @@ pub extern "C" fn its_web_explain(
 ) -> u32
     ensures { IsGiven (ExplainCauses (Some input.now) ⊥) result out.old out.new len.new }
 {
-    give(&explain_answer(alloc, input, order), out, len)
+    let answer = explain_answer(alloc, input, order);
+    give(&answer, out, len)
 }
 
 /// Checks a script and a report, as `its check` does.
@@ -44,5 +46,6 @@ pub extern "C" fn its_web_explain(
 pub extern "C" fn its_web_check(alloc: Global, input: &[u8], out: &mut [u8], len: &mut usize) -> u32
     ensures { IsGiven (CheckCauses (Some input.now) ⊥) result out.old out.new len.new }
 {
-    give(&check_answer(alloc, input), out, len)
+    let answer = check_answer(alloc, input);
+    give(&answer, out, len)
 }

@@ -1,15 +1,13 @@
 //! An answer put where a caller wants it.
-ghost use Rattle.std.specs.Prelude.{◌≡◌, ◌<◌, ◌≤◌, ◌++◌, ℕ, List, drop, length, take};
-ghost use Rattle.its_answers.specs.declared.status.Status.{Status as StatusOf};
-ghost use Rattle.its_web.specs.Answers.{IsCaused, IsGiven};
+ghost use Rattle.std.specs.Prelude.{◌≡◌, ◌<◌, ◌≤◌, ◌++◌, drop, length, take};
+ghost use Rattle.its_web.specs.Answers.{IsPut, status_of, text_of};
 
 use crate::answers::{Answer, number_of};
 use its_answers::refusal;
 
 /// Puts as much of an answer's text as there is room for, and its length.
 pub fn give(answer: &Answer, out: &mut [u8], len: &mut usize) -> u32
-    ensures { (causes : StatusOf → List ℕ → Type 0) → IsCaused causes answer.now
-        → IsGiven causes result out.old out.new len.new }
+    ensures { IsPut (status_of answer.now) (text_of answer.now) result out.old out.new len.new }
 {
     match answer {
         Answer::Answered(ending) => {

@@ -1,5 +1,5 @@
 use Rattle.std.specs.String.{string_bytes}
-use Rattle.its_web.proofs.Legs.{is_open, is_spent}
+use Rattle.its_web.proofs.Opened.{is_open, is_spent}
 use Rattle.its_web.proofs.legs.open_leg.Goals as goal
 
 pub returns : goal.returns

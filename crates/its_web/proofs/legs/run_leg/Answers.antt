@@ -1,5 +1,5 @@
 use Rattle.std.specs.String.{string_bytes}
-use Rattle.its_web.proofs.Legs.{is_left}
+use Rattle.its_web.proofs.Opened.{is_left}
 use Rattle.its_web.proofs.legs.run_leg.Goals as goal
 
 pub returns-in_ok-goes-in-Whole : goal.returns-in_ok-goes-in-Whole
