@@ -18,5 +18,6 @@ ln -s "$kit/toolchain/bin/clang" "$work/wasm-ld"
 "$work/wasm-ld" -mwasm64 --no-entry --gc-sections --strip-all --stack-first -z stack-size=4194304 \
     --export=its_web_run --export=its_web_explain --export=its_web_check \
     "$work/heap.o" "$archive" -o "$web/its_web.wasm"
+python3 "$web/drop_table.py" "$web/its_web.wasm"
 python3 "$web/make_page.py" "$web/its_web.wasm" "$web/../examples" >"$web/index.html"
 wc -c "$web/its_web.wasm" "$web/index.html"
