@@ -215,17 +215,54 @@ void translator_access(struct access *access)
         control_access(offset, access);
 }
 
-/* The tables that the library reads as LPIs are turned on, or are read again. */
-static void copy_tables(uint32_t number, bool is_pending)
+/* Where a processor's configuration table stands. */
+static uint64_t configuration_table(uint32_t number)
 {
     uint64_t table = 0;
 
     must("its_read_lpi_register", its_read_lpi_register(&its, number, PROPBASER, 8, &table));
-    if (!copy_in(table & ADDRESS, CONFIG_LENGTH))
+    return table & ADDRESS;
+}
+
+/* The tables that the library reads as LPIs are turned on, or are read again. */
+static void copy_tables(uint32_t number, bool is_pending)
+{
+    uint64_t table = configuration_table(number);
+
+    if (!copy_in(table, CONFIG_LENGTH))
         stop("no memory for the guest's tables at", table);
     must("its_read_lpi_register", its_read_lpi_register(&its, number, PENDBASER, 8, &table));
     if (is_pending && !copy_in((table & ADDRESS) + PENDING_FROM, PENDING_LENGTH))
         stop("no memory for the guest's tables at", table);
+}
+
+/* Whether a write there, of either half too, has configurations read again. */
+static bool is_read_again(uint32_t offset)
+{
+    return (offset & ~4u) == INVLPIR || (offset & ~4u) == INVALLR;
+}
+
+static void write_lpi_register(uint32_t number, uint32_t offset, const struct access *access)
+{
+    uint32_t answer = its_write_lpi_register(&its, number, offset, access->size, access->value);
+
+    /* Out of memory LPIs stay off, and GICR_CTLR reads so. */
+    if (answer != ITS_NO_MEMORY)
+        must("its_write_lpi_register", answer);
+    kick(&vcpus[number]);
+}
+
+/*
+ * A configuration is read again for every processor that has the same table. Linux enables an LPI at the
+ * processor that has it, and sends no command about it when it moves the LPI to another.
+ */
+static void read_again(uint32_t number, uint32_t offset, const struct access *access)
+{
+    gather(~0u);
+    copy_tables(number, false);
+    for (uint32_t other = 0; other < vcpus_count; other++)
+        if (configuration_table(other) == configuration_table(number))
+            write_lpi_register(other, offset, access);
 }
 
 void lpi_register_access(uint32_t number, uint32_t offset, struct access *access)
@@ -237,13 +274,13 @@ void lpi_register_access(uint32_t number, uint32_t offset, struct access *access
              its_read_lpi_register(&its, number, offset, access->size, &access->value));
         return;
     }
-    gather(1u << number);
-    if (offset == CTLR || offset == INVLPIR || offset == INVALLR)
-        copy_tables(number, offset == CTLR && access->value & 1);
-    uint32_t answer = its_write_lpi_register(&its, number, offset, access->size, access->value);
-    /* Out of memory LPIs stay off, and GICR_CTLR reads so. */
-    if (answer != ITS_NO_MEMORY)
-        must("its_write_lpi_register", answer);
-    kick(&vcpus[number]);
+    if (is_read_again(offset)) {
+        read_again(number, offset, access);
+    } else {
+        gather(1u << number);
+        if (offset == CTLR)
+            copy_tables(number, access->value & 1);
+        write_lpi_register(number, offset, access);
+    }
     forget();
 }
