@@ -16,12 +16,12 @@ use Rattle.its_command.specs.Commands.{decoded, op_of}
 use Rattle.its_command.specs.declared.command.Command.{Command}
 use Rattle.its_command.specs.declared.command.Command.TheVariants as command
 use Rattle.its_command.specs.declared.command.Op.{Op}
-use Rattle.its_plain.specs.Answer.{reply_of, left, answer, poke_left, poked, signal_left, signal_reply, save_left, save_reply, step_reply, step_left}
-use Rattle.its_plain.specs.Answer.{met_reply, met_left, command_reply, command_left, went_on, next_bytes, is_idle, written, gicr_written, route_reply}
-use Rattle.its_plain.specs.Answer.{route_left, replied}
+use Rattle.its_plain.specs.Answer.{reply_of, left, answer, poke_left, signal_left, signal_reply, save_left, save_reply, step_reply, step_left}
+use Rattle.its_plain.specs.Answer.{met_reply, met_left, command_reply, command_left, went_on, next_bytes, is_idle, written, gicr_written}
+use Rattle.its_plain.specs.Answer.{replied}
 use Rattle.its_plain.specs.Commands.{ensure, ◌>>=◌, event_at, target_at, lpi_at, cleared_at, followed, followed_in, intids_of, lpi_set, lpi_cleared, lpi_moved}
-use Rattle.its_plain.specs.Commands.{lpis_moved, all_moved, reread, ran, mapd, unmapd, mapc, mapti, movi, discard, int, clear, inv, invall, movall}
-use Rattle.its_plain.specs.Commands.{with_collection, with_event, unmapc}
+use Rattle.its_plain.specs.Commands.{lpis_moved, all_moved, ran, mapd, unmapd, mapc, mapti, movi, discard, int, clear, inv, invall, movall}
+use Rattle.its_plain.specs.Commands.{with_collection}
 use Rattle.its_plain.specs.History.{IsLegal, after}
 use Rattle.its_plain.specs.Plain.{Plain, regs_of, maps_of, pending_of, is_on, with_maps}
 use Rattle.its_plain.specs.Regions.{savable, areas_of}
@@ -29,13 +29,11 @@ use Rattle.its_plain.specs.Saved.{words_of, saved, moved}
 use Rattle.its_plain.specs.Translation.{translated}
 use Rattle.its_plain.specs.declared.call.Call.{Call}
 use Rattle.its_plain.specs.declared.call.Call.TheVariants as call
-use Rattle.its_plain.specs.declared.call.Cause.{Cause}
 use Rattle.its_plain.specs.declared.call.Entry.{Entry}
 use Rattle.its_plain.specs.declared.call.Reason.{Reason}
 use Rattle.its_plain.specs.declared.call.Reason.TheVariants.{DeviceRange, SizeRange, TargetRange, CollectionRange, NoDevice, EventRange, IntidRange, LpisOff}
 use Rattle.its_plain.specs.declared.call.Reply.{Reply}
 use Rattle.its_plain.specs.declared.call.Reply.TheVariants as reply
-use Rattle.its_plain.specs.declared.call.Route.{Route}
 use Rattle.its_plain.specs.declared.call.Route.TheVariants as route
 use Rattle.its_plain.specs.declared.call.Signal.{Signal}
 use Rattle.its_plain.specs.declared.call.Signal.TheVariants.{Delivered, Dropped}

@@ -64,17 +64,6 @@ are_left u p sound same all none =
       };
     }
 
--- so they go on with it
-pub tracked_goes_on : (u : Plain) (p q : Parts) (t : Option Tracked) → AreLeft u p → t ≡ track_of p.layout.track p.memory → q ≡ with_track t p
-    → GoesOn q (renewed u)
-tracked_goes_on u p q t left is same =
-    let own : track_of p.layout.track p.memory ≡ track_of u.layout.track u.memory = ap (λ (x : Plain). track_of x.layout.track x.memory) left.state in
-    let whole : q ≡ with_track (track_of u.layout.track u.memory) p = same ∙ ap (λ (o : Option Tracked). with_track o p) (is ∙ own) in
-    subst (λ (x : Parts). GoesOn x (renewed u)) (sym whole) (record {
-      state = ap (λ (x : Plain). record x { track = track_of u.layout.track u.memory }) left.state;
-      whole = left.machine;
-    })
-
 -- ---- all parts of a machine that was closed
 
 module _ (s : Setup) (u : Plain) (m : IsOfMachine s u) (p : Parts) (are : AreAllParts s u p) where
