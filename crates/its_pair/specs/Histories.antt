@@ -1,9 +1,8 @@
 -- What two translators over one memory and one set of redistributors were asked, as one history.
-use Rattle.std.specs.Prelude.{◌≡◌, List, length}
+use Rattle.std.specs.Prelude.{◌≡◌, length}
 use mathlib.Core.List.{IsPrefix}
 use Rattle.its_plain.specs.History.{IsLegal, after, placed}
 use Rattle.its_plain.specs.Plain.{Plain}
-use Rattle.its_plain.specs.declared.call.Entry.{Entry}
 use Rattle.its_steps.specs.World.{View}
 use Rattle.its_turns.specs.Told.{KnowsOthers}
 
