@@ -6,14 +6,15 @@
 Links and their anchors; files, functions and definitions that pages name with their crate; the
 functions and clauses of docs/PROMISES.md; the picture of layers and the specs files of
 docs/ARCHITECTURE.md; that both pages have every crate; the files that a new command costs
-(CONTRIBUTING.md); examples, the words of scripts, version and kit; the counts of docs/TESTING.md;
-the figures of docs/SPEED.md that files of bench/ have; and that a figure of README.md's first table
+(CONTRIBUTING.md); the edits (check_edits.py); examples, the words of scripts, version and kit; the
+counts of docs/TESTING.md; the figures of docs/SPEED.md that files of bench/ have; and that a figure of README.md's first table
 stands on another page too. It prints a line for each thing that is wrong, and ends with status 1 if
 there is any.
 """
 import re
 import sys
 
+from check_edits import edits
 from page_figures import counts, figures, speed
 from page_tree import CRATES, TOP, crates, has, pages, prose, rows, sources
 
@@ -271,18 +272,6 @@ def examples():
         for path in sorted((TOP / folder).glob("*.its")):
             if not has(text, path.stem):
                 yield TOP / page, f"says nothing of {path.name}"
-
-
-def edits():
-    """Edits that docs/TESTING.md names by their crate, as in "its_maps: an_edit, another"."""
-    page = TOP / "docs/TESTING.md"
-    for cells in rows(page, "Edits that must fail", 2):
-        for part in cells[1].split("; "):
-            named, _, names = part.partition(": ")
-            for crate in named.split(", "):
-                for name in re.findall(r"\b[a-z0-9]+(?:_[a-z0-9]+)+\b", names):
-                    if not (CRATES / crate / "must-fail" / f"{name}.edit").exists():
-                        yield page, f"{crate}: no edit {name}"
 
 
 def words():

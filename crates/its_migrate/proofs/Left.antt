@@ -1,16 +1,17 @@
 -- The parts that are left of a machine.
-use Rattle.std.proofs.Common.{◌≡◌, ℕ, ◌<◌, List, Option, Some, None, Ok, Err, refl, ap, sym, ◌∙◌, subst, arith}
+use Rattle.std.proofs.Common.{◌≡◌, ℕ, ◌<◌, ◌≤◌, List, Option, Some, None, Ok, Err, refl, ap, sym, ◌∙◌, subst, arith}
 use Rattle.std.specs.Prelude.{slice_get}
 use Rattle.dirty_log.specs.declared.tracked.Tracked.{Tracked}
 use Rattle.its_plain.specs.History.{after}
 use Rattle.its_plain.specs.Plain.{Plain}
 use Rattle.its_plain.specs.Regions.{savable}
-use Rattle.its_plain.specs.Saved.{moved, moved_count}
+use Rattle.its_plain.specs.Saved.{moved, moved_count, track_of}
 use Rattle.its_plain.specs.Sound.{IsSound}
 use Rattle.its_plain.specs.declared.call.Entry.{Entry}
 use Rattle.its_plain.specs.declared.fault.SaveError.{SaveError}
 use Rattle.its_plain.specs.declared.fault.SaveError.TheVariants as errors
 use Rattle.its_plain.specs.declared.layout.Layout.{Layout}
+use Rattle.plain_soundness.proofs.Migrated.{tracks_of, tracked_of}
 use Rattle.lpi_config.specs.Conf.{Conf as ConfInHand}
 use Rattle.lpi_pending.specs.InHand.{RedistParts, conf_in, pend_in}
 use Rattle.lpi_pending.specs.Pend.{Pend as PendInHand}
@@ -29,13 +30,41 @@ use Rattle.its_turns.specs.declared.machine.Pass.{Pass}
 use Rattle.held_parts.specs.Wholes.{TakesWhole}
 use Rattle.held_parts.specs.declared.whole.Whole.{Whole}
 use Rattle.held_parts.proofs.Wholes.{AllConfs, AllPends, both_parts, firsts_are}
-use Rattle.its_migrate.specs.Precopying.{AreLeft, AreTaken, AreUnpacked, IsLeftFor, Precopies, WentOnCopied, with_track}
+use Rattle.its_migrate.specs.Precopying.{AreLeft, AreTaken, AreUnpacked, IsLeftFor, Precopies, WentOnCopied, renewed, untracked, with_track}
 use Rattle.its_migrate.specs.Resting.{IsCause, Rests, resting}
 use Rattle.its_migrate.specs.declared.outcome.Precopy.{Precopy}
 use Rattle.its_migrate.proofs.Copying.{moved_memory}
 use Rattle.its_migrate.proofs.Moving.{went_on}
 use Rattle.its_migrate.proofs.Pendings.{rests_seen}
 use Rattle.its_migrate.proofs.Taken.{HasNoOthers, taken_hand, taken_others, rest_of_machine, taken_rest}
+
+-- ---- a second memory that begins anew
+
+sound_renewed : (u : Plain) → IsSound u → IsSound (renewed u)
+sound_renewed u h = record {
+  layout = h.layout;
+  translators = h.translators;
+  vcpus = h.vcpus;
+  redistributors = h.redistributors;
+  memory = h.memory;
+  tracks = tracks_of u.layout.track u.memory;
+  tracked = tracked_of u.layout.track u.memory;
+}
+
+are_left : (u : Plain) (p : Parts) → IsSound u → state_of_parts p ≡ untracked u → AreAllInHand p.layout.shape p.redists → HasNoOthers p.layout p.redists
+    → AreLeft u p
+are_left u p sound same all none =
+    let track : Option Tracked = track_of u.layout.track u.memory in
+    record {
+      state = same;
+      machine = record {
+        sound = subst IsSound (sym (ap (λ (x : Plain). record x { track = track }) same)) (sound_renewed u sound);
+        all_in_hand = all;
+        no_others = none;
+      };
+    }
+
+-- ---- all parts of a machine that was closed
 
 module _ (s : Setup) (u : Plain) (m : IsOfMachine s u) (p : Parts) (are : AreAllParts s u p) where
   abbrev n : ℕ
@@ -73,21 +102,30 @@ module _ (s : Setup) (u : Plain) (m : IsOfMachine s u) (p : Parts) (are : AreAll
       let pend = d.2.same ∙ ap (λ (o : Option PendInHand). Some (pend_or o)) (sym d.1) in
       both_parts (slice_get u.redistributors v) (conf_or (conf_in p.redists v)) (pend_or (pend_in p.redists v)) conf pend))
 
-  pub parts_left : AreLeft u (with_track None p)
-  parts_left = record {
-    state = λ d. record {
-      layout = are.layout d;
-      translators = are.translators d;
-      redistributors = redists_are d;
-      memory = sym are.parts.memory_is d;
-      track = None;
-    };
-    all_in_hand = λ v lt.
-        let c = are.confs.below v (below v lt) in let d = are.pends.below v (below v lt) in (
-          (c.0, c.1, subst (λ (l : Layout). HasLpisOfConf l.shape c.0) (sym are.layout) c.2.lpis),
-          (d.0, d.1, subst (λ (l : Layout). HasLpisOfPend l.shape d.0) (sym are.layout) d.2.lpis),
-        );
+  state_left : state_of_parts (with_track None p) ≡ untracked u
+  state_left = λ d. record {
+    layout = are.layout d;
+    translators = are.translators d;
+    redistributors = redists_are d;
+    memory = sym are.parts.memory_is d;
+    track = None;
   }
+
+  all_left : AreAllInHand p.layout.shape p.redists
+  all_left v lt =
+      let c = are.confs.below v (below v lt) in let d = are.pends.below v (below v lt) in (
+        (c.0, c.1, subst (λ (l : Layout). HasLpisOfConf l.shape c.0) (sym are.layout) c.2.lpis),
+        (d.0, d.1, subst (λ (l : Layout). HasLpisOfPend l.shape d.0) (sym are.layout) d.2.lpis),
+      )
+
+  above : (v : ℕ) → n ≤ v → vcpu_count s ≤ v
+  above v le = omega (arith, le, counted)
+
+  no_others_left : HasNoOthers p.layout p.redists
+  no_others_left v le = record { conf = are.confs.others v (above v le); pend = are.pends.others v (above v le) }
+
+  pub parts_left : AreLeft u (with_track None p)
+  parts_left = are_left u (with_track None p) m.sound state_left all_left no_others_left
 
 -- ---- parts that were taken out of a machine at rest
 
@@ -125,7 +163,9 @@ cause_at u w same errors.NoMemory is = tt
 
 module _ (m : Machine) (r : Pass) (q : Parts × Option Tracked) (are : AreTaken (setup m) q) (same : state_of_parts (with_track q.1 q.0) ≡ resting m r) where
   pub taken_left : AreLeft (resting m r) q.0
-  taken_left = record { state = λ d. record (same d) { track = are.track d }; all_in_hand = are.machine.all_in_hand }
+  taken_left =
+      are_left (resting m r) q.0 (subst IsSound same are.machine.sound) (λ d. record (same d) { track = are.track d }) are.machine.all_in_hand
+      are.machine.no_others
 
   -- a machine that begins with the parts that go on
   module _ (n : Machine) (s : Pass) (p : Parts) (count : ℕ) (goes : GoesOn p (moved (state_of_parts (with_track q.1 q.0))))
@@ -146,4 +186,4 @@ pub left_for : (m : Machine) (r s : Pass) (e : SaveError) (x : Precopy) → IsOf
 left_for m r s (errors.Fault f) x of rests cause left = subst (λ (y : Precopy). Precopies m r (Err y)) (sym left) (refl, of, rests, cause)
 left_for m r s errors.NoMemory x of rests cause left =
     subst (λ (y : Precopy). Precopies m r (Err y)) (sym left.1)
-    (subst (λ (h : List Entry). AreLeft (after (setup m).start h) left.0) (rests_seen (view r) (view s) rests) left.2)
+    (subst (λ (h : List Entry). AreLeft (after (setup m).start h) left.0.parts) (rests_seen (view r) (view s) rests) left.2)

@@ -6,3 +6,4 @@ mod Copying
 mod Left
 pub mod Fresh
 mod Once
+mod Beside

@@ -3,3 +3,4 @@ pub mod Precopying
 pub mod Saving
 pub mod Shared
 pub mod Tries
+pub mod Beside

@@ -3,13 +3,13 @@ use Rattle.std.specs.Prelude.{◌≡◌, ℕ, Option, None, Result, Ok, Err}
 use Rattle.dirty_log.specs.declared.tracked.Tracked.{Tracked}
 use Rattle.its_plain.specs.Plain.{Plain}
 use Rattle.its_plain.specs.Regions.{savable}
-use Rattle.its_plain.specs.Saved.{saved, moved_count}
+use Rattle.its_plain.specs.Saved.{saved, moved_count, track_of}
 use Rattle.its_plain.specs.declared.fault.SaveError.{SaveError}
 use Rattle.its_plain.specs.declared.fault.SaveError.TheVariants as errors
 use Rattle.its_plain.specs.declared.layout.Layout.{Layout}
-use Rattle.owned_parts.specs.Owned.{AreAllInHand, state_of_parts}
+use Rattle.owned_parts.specs.Owned.{state_of_parts}
 use Rattle.owned_parts.specs.declared.parts.Parts.{Parts}
-use Rattle.owned_machine.specs.Whole.{IsMachine}
+use Rattle.owned_machine.specs.Whole.{IsMachine, GoesOn}
 use Rattle.its_steps.specs.Parts.{Setup, IsOfMachine}
 use Rattle.its_turns.specs.Machines.{setup, view, IsOf}
 use Rattle.its_turns.specs.declared.machine.Machine.{Machine}
@@ -19,6 +19,7 @@ use Rattle.held_parts.specs.declared.whole.Whole.{Whole}
 use Rattle.its_migrate.specs.Resting.{Rests, WentOn, Migrates, resting}
 use Rattle.its_migrate.specs.declared.outcome.Precopy.{Precopy}
 use Rattle.its_migrate.specs.declared.outcome.Precopy.TheVariants as precopy
+use Rattle.its_migrate.specs.declared.outcome.Untracked.{Untracked}
 
 -- ---- parts without the second memory
 
@@ -29,10 +30,19 @@ untracked u = record u { track = None }
 abbrev pub with_track : Option Tracked → Parts → Parts
 with_track track p = record p { track = track }
 
--- these are a state's, but for the second memory
+-- the same state with a second memory that begins anew, where it has one: zero, and every page dirty
+abbrev pub renewed : Plain → Plain
+renewed u = record u { track = track_of u.layout.track u.memory }
+
+-- these are a state's, but for the second memory, and a machine's once they have such a one
 pub record AreLeft (u : Plain) (p : Parts) : Type 0 where
   pub state : state_of_parts p ≡ untracked u
-  pub all_in_hand : AreAllInHand p.layout.shape p.redists
+  pub machine : IsMachine (with_track (track_of u.layout.track u.memory) p)
+
+-- they are given it, or all stays as it was
+abbrev pub IsTrackedAgain : Plain → Untracked → Result Parts Untracked → Type 0
+IsTrackedAgain u x (Ok p) = GoesOn p (renewed u)
+IsTrackedAgain u x (Err y) = y ≡ x
 
 -- they were held, and so was the second memory
 pub record AreUnpacked (l : Layout) (x : Whole) (r : Parts × Option Tracked) : Type 0 where
@@ -59,12 +69,12 @@ pub record WentOnCopied (m : Machine) (r : Pass) (n : Machine) (s : Pass) (count
 abbrev pub Precopies : Machine → Pass → Result (Machine × Pass × ℕ) Precopy → Type 0
 Precopies m r (Ok x) = WentOnCopied m r x.0 x.1 x.2
 Precopies m r (Err (precopy.Fault n s f)) = (n ≡ m) × IsOf n s × Rests (view r) (view s) × (savable (resting m r) ≡ Err f)
-Precopies m r (Err (precopy.NoMemory p)) = AreLeft (resting m r) p
+Precopies m r (Err (precopy.NoMemory x)) = AreLeft (resting m r) x.parts
 
 -- what is left of a machine that couldn't be saved
 abbrev pub IsLeftFor : Machine → Pass → SaveError → Precopy → Type 0
 IsLeftFor m r (errors.Fault f) x = x ≡ precopy.Fault m r f
-IsLeftFor m r errors.NoMemory x = (p : Parts) × (x ≡ precopy.NoMemory p) × AreLeft (resting m r) p
+IsLeftFor m r errors.NoMemory x = (y : Untracked) × (x ≡ precopy.NoMemory y) × AreLeft (resting m r) y.parts
 
 -- what a migration and a pre-copy give begins alike, and so do the roots
 abbrev pub PrecopiesAsMigrates : Type 0

@@ -1,7 +1,5 @@
 //! How a machine is made that threads share, its saves, migrations and pre-copies, and what is
 //! pending in it at rest.
-//!
-//! `share` has one clause: how each thing that passes have in common begins.
 #![tactic(auto)]
 
 mod laws;
@@ -13,9 +11,9 @@ mod saving;
 mod sharing;
 mod trying;
 
-pub use laws::precopies_as_migrates;
+pub use laws::{copies_change_nothing_else, precopies_as_migrates, running_as_stopped};
 pub use leaving::migrate;
-pub use outcome::Precopy;
+pub use outcome::{Precopy, Untracked};
 pub use precopying::precopy;
 pub use resting::{PendingLists, pending};
 pub use saving::save;

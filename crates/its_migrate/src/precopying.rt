@@ -13,7 +13,7 @@ ghost use Rattle.its_migrate.specs.Precopying.{Precopies, WentOnCopied, AreLeft,
 ghost use Rattle.its_migrate.specs.Precopying.{AreUnpacked, IsLeftFor, with_track};
 ghost use Rattle.its_migrate.specs.Resting.{Rests, IsCause, resting};
 
-use crate::outcome::Precopy;
+use crate::outcome::{Precopy, Untracked};
 use dirty_log::Tracked;
 use guest_windows::{Draft, Memory};
 use held_parts::{AtRest, Whole, put_whole, take_whole};
@@ -88,7 +88,10 @@ fn left(machine: Machine, root: Root, error: SaveError) -> Precopy
 {
     match error {
         SaveError::Fault(fault) => Precopy::Fault(machine, root, fault),
-        SaveError::NoMemory => Precopy::NoMemory(closed(machine, root)),
+        SaveError::NoMemory => {
+            let parts = closed(machine, root);
+            Precopy::NoMemory(Untracked { parts })
+        }
     }
 }
 
@@ -151,7 +154,7 @@ fn next_machine(
             drop(parts);
             Ok(next)
         }
-        Err(AllocError) => Err(Precopy::NoMemory(parts)),
+        Err(AllocError) => Err(Precopy::NoMemory(Untracked { parts })),
     }
 }
 
