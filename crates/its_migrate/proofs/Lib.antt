@@ -6,4 +6,5 @@ mod Copying
 mod Left
 pub mod Fresh
 mod Once
+mod Bare
 mod Beside
