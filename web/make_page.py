@@ -7,7 +7,8 @@ import os
 import sys
 
 HERE = os.path.dirname(os.path.abspath(__file__))
-PARTS = ["module.js", "report.js", "drawing.js", "page.js", "start.js"]
+PARTS = ["asking.js", "report.js", "drawing.js", "page.js", "start.js"]
+WORKER = ["module.js", "worker.js"]
 FIRST = ["first_lpi", "taking_turns", "move_and_discard", "moving_collections"]
 LARGEST = 65536
 
@@ -30,6 +31,11 @@ def examples(folder):
     return {name: found[name] for name in order}
 
 
+def literal(value):
+    """Text as the script has it, inside of a page."""
+    return json.dumps(value).replace("<", "\\u003c")
+
+
 def allowed(text):
     """The source of a content security policy that allows just this text."""
     return "'sha256-" + base64.b64encode(hashlib.sha256(text.encode()).digest()).decode() + "'"
@@ -39,12 +45,12 @@ def main():
     module, folder = sys.argv[1:]
     with open(module, "rb") as file:
         packed = base64.b64encode(file.read()).decode()
-    scripts = json.dumps(examples(folder)).replace("<", "\\u003c")
-    code = '"use strict";\n(() => {\nconst EXAMPLES = ' + scripts + ';\nconst MODULE = "' + packed + '";\n'
+    code = '"use strict";\n(() => {\nconst EXAMPLES = ' + literal(examples(folder)) + ';\nconst MODULE = "' + packed
+    code += '";\nconst WORKER = ' + literal('"use strict";\n' + "\n".join(read(part) for part in WORKER)) + ";\n"
     code += "\n".join(read(part) for part in PARTS) + "})();\n"
     style = read("style.css")
     policy = "; ".join([
-        "default-src 'none'", "script-src " + allowed(code) + " 'wasm-unsafe-eval'", "style-src " + allowed(style),
+        "default-src 'none'", "script-src " + allowed(code) + " 'wasm-unsafe-eval'", "worker-src blob:", "style-src " + allowed(style),
         "img-src data:", "base-uri 'none'", "form-action 'none'"])
     page = read("page.html").replace("@POLICY@", policy).replace("@STYLE@", style).replace("@SCRIPT@", code)
     sys.stdout.write(page)

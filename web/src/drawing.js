@@ -14,18 +14,19 @@ function layOut(rows) {
   picture.eventTop = TOP + picture.threads * LANE + 14;
   picture.vcpuTop = picture.eventTop + picture.eventRows * ROW + 8;
   picture.width = LEFT + (picture.columns + 1) * COLUMN + RIGHT;
-  picture.height = picture.vcpuTop + Math.max(1, picture.vcpus.length) * ROW + 12;
+  picture.placeTop = picture.vcpuTop + Math.max(1, picture.vcpus.length) * ROW + 6;
+  picture.height = picture.placeTop + 18;
   return picture;
 }
 
 // Each call has a column, and a leg's end has some. Walls stand where phases and legs begin.
 function placeColumns(rows) {
   const calls = [], walls = [], ends = [];
-  let x = 0, phase = 0, threads = 1;
+  let x = 0, phase = 0, threads = 1, moved = "";
   for (const row of rows) {
     if (row.kind === "leg") {
       phase = 0;
-      if (row.leg > 1) walls.push({ x: x++, text: "leg " + row.leg, thick: true });
+      if (row.leg > 1) walls.push({ x: x++, text: moved + ": leg " + row.leg, thick: true });
     }
     if (row.kind === "call") {
       if (row.phase !== phase) walls.push({ x, text: "phase " + row.phase, thick: false });
@@ -38,7 +39,10 @@ function placeColumns(rows) {
       row.x = x;
       ends.push(row);
     }
-    if (row.kind === "end" && row.line !== "done") x += 4;
+    if (row.kind === "end" && row.line !== "done") {
+      moved = row.line;
+      x += 4;
+    }
   }
   return { calls, walls, ends, threads, columns: x };
 }
@@ -159,7 +163,8 @@ function draw(picture, first, last, chosen) {
     },
     left: from === 0 ? 0 : middle(from) - COLUMN / 2,
     right: Math.min(picture.width, middle(to) + COLUMN / 2),
-    bottom: picture.height - 6,
+    bottom: picture.placeTop,
+    places: picture.height - 5,
   };
   const inside = [
     ...drawLanes(picture, at),
@@ -167,6 +172,7 @@ function draw(picture, first, last, chosen) {
     ...picture.events.map((event) => drawEvent(event, at, from, to)),
     ...between(picture.calls, from, to).map((call) => drawColumn(call, at, chosen)),
     ...between(picture.ends, from, to).map((row) => drawPending(row, at)),
+    ...between(picture.calls, from, to).map((call) => drawPlace(call, at, chosen)),
   ].join("");
   const width = at.right - at.left, height = picture.height;
   const svg = svgOf(width, height, `${at.left} 0 ${width} ${height}`, inside);
@@ -200,6 +206,7 @@ function drawNames(picture, rows, at) {
   }
   for (const vcpu of picture.vcpus)
     parts.push(text(hue(vcpu), 8, at.vcpu(vcpu) + 4, "vCPU " + vcpu));
+  parts.push(text("dim", 8, at.places, "place"));
   const height = picture.height;
   return svgOf(LEFT, height, `0 0 ${LEFT} ${height}`, parts.join(""));
 }
@@ -241,6 +248,13 @@ function drawColumn(call, at, chosen) {
   const title = escapeText(call.line + "\n" + call.why.join("\n"));
   return `<rect class="${kind}" data-row="${call.index}" x="${left}" y="30" width="${COLUMN}"`
     + ` height="${at.bottom - 30}"><title>${title}</title></rect>` + drawCall(call, at);
+}
+
+// Each fifth place has its number, and the chosen one.
+function drawPlace(call, at, chosen) {
+  if (call.place % 5 !== 0 && call !== chosen) return "";
+  const kind = call === chosen ? "small middle" : "small dim middle";
+  return text(kind, middle(call.x), at.places, String(call.place));
 }
 
 function drawCall(call, at) {

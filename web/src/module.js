@@ -1,21 +1,8 @@
 // The module: bytes in, bytes and a status out. Nothing is kept between two calls, so its heap
 // begins anew with each.
 
-// What the numbers of statuses mean: those of the exits of the command `its`.
-const STATUS = {
-  0: "done",
-  1: "the input is no script",
-  5: "memory ran out",
-  6: "the description makes no machine",
-  7: "the state can't be saved, so the machine isn't moved",
-  8: "a leg has more calls than places",
-  9: "the input is too long",
-  10: "the report is that of no run of this script",
-  11: "what follows the script is no report",
-};
-
-async function openModule(bytes) {
-  const { instance } = await WebAssembly.instantiate(bytes, {});
+async function openModule(module) {
+  const instance = await WebAssembly.instantiate(module, {});
   const { memory, page_alloc: alloc, page_reset: reset, ...calls } = instance.exports;
   const place = (size) => {
     const at = alloc(BigInt(size));

@@ -5,8 +5,7 @@ const $ = (id) => document.getElementById(id);
 const LINE = 19, PAD = 8, MOST_ROWS = 1500;
 
 const state = {
-  its: null,
-  bytes: null,
+  open: false,
   rows: [],
   tops: [],
   script: { lines: new Map(), many: false, rows: 1 },
@@ -18,18 +17,19 @@ const state = {
   pasting: false,
 };
 
-// ---- the module
+// ---- the beginning
 
 async function openPage() {
-  state.bytes = Uint8Array.from(atob(MODULE), (c) => c.charCodeAt(0));
+  const bytes = Uint8Array.from(atob(MODULE), (c) => c.charCodeAt(0));
   try {
-    state.its = await openModule(state.bytes);
+    await startAsking(bytes);
   } catch (error) {
     say("this browser runs no WebAssembly with 64-bit memory: " + error.message, "bad");
     return;
   }
-  const size = Math.round(state.bytes.length / 1024);
+  const size = Math.round(bytes.length / 1024);
   $("about").textContent = "The module has " + size + " KiB of WebAssembly.";
+  state.open = true;
   await readLink();
   run();
 }
@@ -39,19 +39,6 @@ function say(text, kind) {
   $("state").className = kind;
 }
 
-// One call of the module. Where it breaks off, a new module takes its place.
-function ask(verb, input) {
-  const start = performance.now();
-  try {
-    const said = state.its(verb, input, orderNow());
-    return { ...said, ms: performance.now() - start };
-  } catch (error) {
-    say("stopped: " + error.message, "bad");
-    openModule(state.bytes).then((its) => { state.its = its; });
-    return null;
-  }
-}
-
 function orderNow() {
   const text = $("order").value.trim();
   return /^\d{1,19}$/.test(text) ? text : "0";
@@ -59,21 +46,22 @@ function orderNow() {
 
 // ---- runs and checks
 
-function run() {
+async function run() {
   clearTimeout(state.timer);
-  if (state.its === null) return;
+  if (!state.open) return;
   const input = $("script").value;
   state.script = readScript(input);
   $("orders").hidden = !state.script.many;
-  const said = ask("explain", input);
+  const said = await ask("explain", input);
   if (said !== null) show(said);
 }
 
 const ended = (text) => (text === "" || text.endsWith("\n") ? text : text + "\n");
 
-function check() {
-  if (state.its === null) return;
-  const said = ask("explain", ended($("script").value) + "trace\n" + ended($("other").value));
+async function check() {
+  if (!state.open) return;
+  const text = ended($("script").value) + "trace\n" + ended($("other").value);
+  const said = await ask("explain", text);
   if (said !== null) show(said);
 }
 
@@ -210,7 +198,8 @@ function showPicture() {
   $("scroller").scrollLeft = 0;
   const what = picture.calls.length + " calls, " + picture.threads + " threads at most, "
     + picture.vcpus.length + " virtual processors";
-  $("scroller").setAttribute("aria-label", "The history: " + what + ". The report tells the same.");
+  const how = "The report tells the same. Arrows go from call to call.";
+  $("scroller").setAttribute("aria-label", "The history: " + what + ". " + how);
   drawPicture();
 }
 
@@ -249,10 +238,17 @@ function choose(index) {
   state.chosen = index;
   seeRow(index);
   mark(index, true);
+  tell(row);
   if (row.at) seeLine(row.at);
   if (row.x !== undefined) seeColumn(row.x);
   drawLines();
   drawPicture();
+}
+
+// The chosen row, for who reads by ear and isn't in the report.
+function tell(row) {
+  const inside = document.activeElement === $("report");
+  $("told").textContent = inside ? "" : row.line + ". " + row.why.join(" ");
 }
 
 // The first call of the line that the cursor stands in.

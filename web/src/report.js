@@ -1,5 +1,18 @@
 // What is printed, as rows; and the script's lines that they are of.
 
+// What the numbers of statuses mean: those of the exits of the command `its`.
+const STATUS = {
+  0: "done",
+  1: "the input is no script",
+  5: "memory ran out",
+  6: "the description makes no machine",
+  7: "the state can't be saved, so the machine isn't moved",
+  8: "a leg has more calls than places",
+  9: "the input is too long",
+  10: "the report is that of no run of this script",
+  11: "what follows the script is no report",
+};
+
 const ENTRY = /^(\d+) (\d+)\.(\d+) (b )?(.*?) -> (.*)$/;
 const FAILED = /^(dropped|refused|outside|queue-fault|save-fault)/;
 

@@ -77,9 +77,11 @@ function showPasting() {
   else run();
 }
 
-function fillPasted() {
-  const said = ask("run", $("script").value);
-  if (said !== null) $("other").value = said.text;
+async function fillPasted() {
+  const said = await ask("run", $("script").value);
+  if (said === null) return;
+  $("other").value = said.text;
+  showState(said);
 }
 
 const REPORT_KEYS = {

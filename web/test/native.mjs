@@ -24,7 +24,7 @@ function same(name, what, got, wanted) {
   console.log(`${name}: ${what}: status ${got.status}, wanted ${wanted.status}; text ${got.text === wanted.text ? "the same" : "another"}`);
 }
 
-const its = await openModule(fs.readFileSync(module));
+const its = await openModule(await WebAssembly.compile(fs.readFileSync(module)));
 const files = folders.flatMap((folder) => fs.readdirSync(folder).filter((name) => name.endsWith(".its")).map((name) => path.join(folder, name)));
 for (const file of files) {
   const script = fs.readFileSync(file, "utf8"), name = path.basename(file);

@@ -83,6 +83,7 @@ async function orders(page) {
 async function checks(page) {
   await page.clickOn("#checking");
   await page.clickOn("#fill");
+  await page.until($("other") + `.value.endsWith("done\\n")`);
   await page.clickOn("#check");
   await page.until(`/^agrees/.test(${text("state")})`);
   expect("a pasted report agrees", true);
