@@ -10,6 +10,7 @@ use Rattle.its_steps.specs.Parts.{Setup}
 use Rattle.its_turns.specs.Machines.{setup}
 use Rattle.its_turns.specs.declared.machine.Machine.{Machine}
 use Rattle.its_top.specs.Played.{IsFresh}
+use Rattle.its_answers.specs.Answered.{IsLegMoved, LegEnds, LegStops, refusal_text}
 use Rattle.its_answers.specs.declared.ending.Ending.{Ending}
 use Rattle.its_top.specs.declared.legs.Goes.{Goes}
 use Rattle.its_top.specs.declared.legs.Goes.TheVariants.{On, Ends}

@@ -18,6 +18,7 @@ use Rattle.its_words.specs.Help.{help_text, version_text}
 use Rattle.its_answers.specs.Legs.{HasPlaces, CanMigrate, AllEnd, all_told}
 use Rattle.trace_check.specs.Verdicts.{copies_of, IsReportOfRun}
 use Rattle.its_answers.specs.Checked.{CheckCauses, IsCheckInput, read_report}
+use Rattle.its_answers.specs.Its.{ExplainCauses, IsScript, RunCauses}
 use Rattle.its_top.specs.Summarized.{GenCauses}
 use Rattle.its_answers.specs.declared.status.Status.{Status}
 use Rattle.its_answers.specs.declared.status.Status.TheVariants as status

@@ -2,6 +2,7 @@
 use Rattle.std.specs.Prelude.{◌≡◌, Err}
 use Rattle.its_plain.specs.Regions.{savable}
 use Rattle.event_script.specs.declared.script.Move.{Move}
+use Rattle.its_answers.specs.Moves.{pages_of}
 use Rattle.its_plain.specs.declared.fault.SaveError.{SaveError}
 use Rattle.its_plain.specs.declared.fault.SaveError.TheVariants as errors
 use Rattle.its_migrate.specs.Resting.{WentOn, resting}

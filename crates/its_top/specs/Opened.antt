@@ -12,6 +12,7 @@ use Rattle.its_turns.specs.declared.machine.Pass.{Pass}
 use Rattle.its_migrate.specs.Resting.{WentOn, resting}
 use Rattle.its_answers.specs.Answered.{IsLegSpent}
 use Rattle.its_answers.specs.Moves.{pages_of, move_line}
+use Rattle.its_answers.specs.Opened.{IsLegOpen, IsRefusedEnding}
 use Rattle.its_top.specs.declared.legs.Goes.{Goes}
 use Rattle.its_top.specs.declared.legs.Goes.TheVariants.{On, Ends}
 use Rattle.its_top.specs.declared.legs.Opened.{Opened}
