@@ -4,7 +4,7 @@ use mathlib.Core.List.{IsPrefix}
 use Rattle.its_types.specs.declared.machine.Word.{Word}
 use Rattle.its_plain.specs.History.{IsLegal, after, placed}
 use Rattle.its_plain.specs.Plain.{Plain}
-use Rattle.its_steps.specs.World.{View}
+use Rattle.its_steps.specs.World.{View, loaded}
 use Rattle.its_turns.specs.Told.{KnowsOthers}
 
 -- All that a pass has seen, of either translator, is one history of the plain machine with two translators: each reply is what that
@@ -16,6 +16,7 @@ pub record AreOneHistory (start : Plain) (v : View) (word : Word) (w : View) : T
   pub two : length (after start w.seen).translators ≡ 2
   pub longer : IsPrefix v.seen w.seen
   pub place : length w.seen ≡ word.place
-  pub last : w.last ≡ word
+  -- nothing else of what it knows is other than before
+  pub same : w ≡ loaded v word w.seen
   pub own : w.mine ≡ placed w.number 0 w.seen
   pub others : w.number ≡ 0 → KnowsOthers w w.seen
