@@ -7,9 +7,9 @@ Links and their anchors; files, functions and definitions that pages name with t
 functions and clauses of docs/PROMISES.md; the picture of layers and the specs files of
 docs/ARCHITECTURE.md; that both pages have every crate; the files that a new command costs
 (CONTRIBUTING.md); the edits (check_edits.py); examples, the words of scripts, version and kit; the
-counts of docs/TESTING.md; the figures of docs/SPEED.md that files of bench/ have; and that a figure of README.md's first table
-stands on another page too. It prints a line for each thing that is wrong, and ends with status 1 if
-there is any.
+counts of docs/TESTING.md; the figures of docs/SPEED.md that files of bench/ have; and that a figure
+of README.md's first table stands on another page too. It prints a line for each thing that is
+wrong, and ends with status 1 if there is any.
 """
 import re
 import sys

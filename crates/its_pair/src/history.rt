@@ -13,7 +13,8 @@ pub fn one_history(machine: &Machine, pass: &mut Pass) -> Word
     requires of { IsOf machine.now pass.old }
     requires two { translator_count (setup machine.now) ≡ 2 }
     ensures of { IsOf machine.now pass.new }
-    ensures history { AreOneHistory (setup machine.now).start (view pass.old) (view pass.new) }
+    ensures history { AreOneHistory (setup machine.now).start (view pass.old) result
+        (view pass.new) }
 {
     look(machine, pass)
 }
