@@ -45,14 +45,14 @@ fi
 made() {
     local suite=${SUITE:-bookworm} mirror=${MIRROR:-http://deb.debian.org/debian}
     if [ "$arm" ]; then
-        mmdebstrap --variant=extract --architectures=arm64 --include="?essential,$packages" "$suite" "$root" "$mirror"
+        mmdebstrap --variant=extract --architectures=arm64 --include='?essential' --include="$packages" "$suite" \
+            "$root" "$mirror"
     else
         debootstrap --variant=minbase --include="$packages" "$suite" "$root" "$mirror"
     fi
 }
 
-log=$root.log
-[ -x "$root/usr/bin/man" ] || made >"$log" 2>&1 || { tail -n 5 "$log" >&2 && exit 1; }
+[ -x "$root/usr/bin/man" ] || said=$(made 2>&1) || { tail -n 5 <<<"$said" >&2 && exit 1; }
 rm -rf "$root/root/$name"
 tar --no-same-owner -xzf "$archive" -C "$root/root"
 failed=0
