@@ -8,10 +8,11 @@
 # LIBRARY_AARCH64 is the libits_c.a that `rt lib --target aarch64-unknown-linux-gnu` made. The logs are what the runs
 # printed that proved this commit: `.ci/run`, or `rt ci its_cli its_c its_web`, which proves and tries those and all that
 # they stand on, and three `rt lib`: two of its_c, and that of its_web for wasm64-unknown-unknown. Each crate that is
-# linked has to be in one (proved.py); that they are of this commit is for the caller to know. The program is what the
-# gate leaves in crates/its_cli/out, the library for x86_64 what `rt lib` leaves in crates/its_c/out, the page what
-# web/build.sh makes; PROGRAM, LIBRARY and PAGE in the environment name other files. The version is the first
-# of CHANGELOG.md. The archives are FOLDER/bacciledru-VERSION-PROCESSOR.tar.gz, in release/out without a FOLDER.
+# linked has to be in one, and each of its edits has to be told as refused in one (proved.py); that they are of this
+# commit is for the caller to know. The program is what the gate leaves in crates/its_cli/out, the library for x86_64
+# what `rt lib` leaves in crates/its_c/out, the page what web/build.sh makes; PROGRAM, LIBRARY and PAGE in the
+# environment name other files. The version is the first of CHANGELOG.md. The archives are
+# FOLDER/bacciledru-VERSION-PROCESSOR.tar.gz, in release/out without a FOLDER.
 set -euo pipefail
 export LC_ALL=C TZ=UTC
 umask 022
@@ -116,5 +117,5 @@ checked_library "$library_aarch64" AArch64
 name=bacciledru-$version-aarch64
 copied "$work/$name" examples/hypervisor
 filled "$work/$name" aarch64 "$library_aarch64" \
-    "gcc-aarch64-linux-gnu, libc6-dev-arm64-cross, qemu-user-static and man-db" its_c=libits_c.a
+    "gcc-aarch64-linux-gnu, libc6-dev-arm64-cross, qemu-user-static, qemu-system-arm and man-db" its_c=libits_c.a
 packed "$name"

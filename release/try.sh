@@ -1,17 +1,27 @@
 #!/usr/bin/env bash
-# Tries an archive as somebody would who has nothing else: in a fresh Debian that debootstrap makes, with the
-# packages and the commands of its README, and nothing more. What the monitor and the program print is compared.
+# Tries an archive as somebody would who has nothing else: in a fresh Debian, with the packages and the commands of its
+# README, and nothing more. What the monitor, the program and the hypervisor's guest print is compared.
 #
-# usage: release/try.sh ARCHIVE [FOLDER]     as root, with debootstrap; FOLDER, in which the system is made, is kept
+# usage: release/try.sh [--arm] ARCHIVE [FOLDER]     as root; FOLDER, in which the system is made, is kept
 #
-# An archive for aarch64 is tried on x86-64 too, by the cross compiler and qemu-user that its README names.
+# The Debian is for x86-64, made by debootstrap: there an archive for aarch64 is tried by the cross compiler and the
+# qemu-user that its README names. With --arm such an archive is tried as on an Arm machine: mmdebstrap unpacks the
+# packages for arm64, and qemu-aarch64-static runs each program of them, down to gcc and QEMU. For that the kernel has to
+# be 6.7 or later, or binfmt_misc has to have qemu-aarch64 already.
 set -euo pipefail
 export LC_ALL=C
 
-if [ $# -lt 1 ] || [ $# -gt 2 ]; then
-    echo "usage: release/try.sh ARCHIVE [FOLDER]" >&2
+usage() {
+    sed -n 's/^# usage: /usage: /p' "$0" >&2
     exit 2
+}
+
+arm=
+if [ "${1:-}" = --arm ]; then
+    arm=1
+    shift
 fi
+[ $# -ge 1 ] && [ $# -le 2 ] || usage
 archive=$(realpath "$1")
 name=$(basename "$archive" .tar.gz)
 if [ $# -eq 2 ]; then
@@ -26,18 +36,43 @@ readme=$(tar -xzOf "$archive" "$name/README.md")
 packages=$(sed -nE 's/^In this folder, on a Debian with (.*):$/\1/p' <<<"$readme" | sed 's/ and /,/; s/, /,/g')
 commands=$(awk '/^## /{here = /^## Try it/} here && /^    /' <<<"$readme" | sed 's/^    //')
 [ -n "$packages" ] && [ -n "$commands" ] || { echo "the README says nothing to try" >&2 && exit 1; }
-
-if [ ! -x "$root/usr/bin/man" ]; then
-    debootstrap --variant=minbase --include="$packages" "${SUITE:-bookworm}" "$root" "${MIRROR:-http://deb.debian.org/debian}" \
-        >"$root/made.log" 2>&1 || { tail -n 5 "$root/made.log" >&2 && exit 1; }
+if [ "$arm" ]; then # what the README says of an Arm machine
+    packages=$(sed 's/gcc-aarch64-linux-gnu,libc6-dev-arm64-cross,qemu-user-static/gcc,libc6-dev/' <<<"$packages")
+    commands=$(sed 's/^aarch64-linux-gnu-gcc /gcc /; s/^qemu-aarch64-static //' <<<"$commands")
 fi
+
+# A Debian in $root with these packages.
+made() {
+    local suite=${SUITE:-bookworm} mirror=${MIRROR:-http://deb.debian.org/debian}
+    if [ "$arm" ]; then
+        mmdebstrap --variant=extract --architectures=arm64 --include='?essential' --include="$packages" "$suite" \
+            "$root" "$mirror"
+    else
+        debootstrap --variant=minbase --include="$packages" "$suite" "$root" "$mirror"
+    fi
+}
+
+[ -x "$root/usr/bin/man" ] || said=$(made 2>&1) || { tail -n 5 <<<"$said" >&2 && exit 1; }
 rm -rf "$root/root/$name"
-tar -xzf "$archive" -C "$root/root"
+tar --no-same-owner -xzf "$archive" -C "$root/root"
 failed=0
 
-# Runs a command of the README in the unpacked folder.
+# Has the kernel run programs for arm64 by qemu-user, in a namespace of its own.
+registered='mount -t binfmt_misc binfmt_misc /proc/sys/fs/binfmt_misc
+printf %s ":qemu-aarch64:M::\x7fELF\x02\x01\x01\x00\x00\x00\x00\x00\x00\x00\x00\x00\x02\x00\xb7\x00:$1:$2:F" \
+    >/proc/sys/fs/binfmt_misc/register
+shift 2
+exec "$@"'
+mask='\xff\xff\xff\xff\xff\xff\xff\x00\xff\xff\xff\xff\xff\xff\xff\xff\xfe\xff\xff\xff'
+run=()
+if [ "$arm" ] && [ ! -e /proc/sys/fs/binfmt_misc/qemu-aarch64 ]; then
+    run=(unshare --user --map-root-user --mount bash -euc "$registered" registered "$mask" "$(command -v qemu-aarch64-static)")
+fi
+
+# Runs a command of the README in the unpacked folder. What is emulated twice takes its time.
 inside() {
-    chroot "$root" /usr/bin/env -i PATH=/usr/sbin:/usr/bin:/sbin:/bin HOME=/root LC_ALL=C sh -euc "cd '/root/$name' && $1"
+    "${run[@]}" chroot "$root" /usr/bin/env -i PATH=/usr/sbin:/usr/bin:/sbin:/bin HOME=/root LC_ALL=C PATIENCE=600 \
+        sh -euc "cd '/root/$name' && $1"
 }
 
 # What a command has to print, as the README says.
@@ -55,7 +90,10 @@ while read -r command <&3; do
     if [ "$status" -eq 0 ] && [ -n "$wanted" ]; then
         diff "$root/root/printed" "$root/root/$name/$wanted" >&2 || status=1
     fi
-    case $command in man\ *) grep -q '^NAME' "$root/root/printed" || status=1 ;; esac
+    case $command in
+        man\ *) grep -q '^NAME' "$root/root/printed" || status=1 ;;
+        *run.sh\ run\ *) grep -q '^first guest: as expected' "$root/root/printed" || status=1 ;;
+    esac
     if [ "$status" -eq 0 ]; then
         echo "passed: $command"
     else

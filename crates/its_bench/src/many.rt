@@ -19,7 +19,14 @@ use std::sync::Wait;
 use std::time::{Clock, Instant};
 
 /// How many virtual processors the machines have.
-pub const SIZES: [u16; 2] = [16, MOST_VCPUS];
+pub const SIZES: [u16; 2] = [FEW_VCPUS, MOST_VCPUS];
+
+const FEW_VCPUS: u16 = 16;
+
+// In so many laps they are made, of which the quickest counts, where each has this many calls.
+const LAPS: u32 = 16;
+
+const CALLS_A_LAP: u32 = 1024;
 
 /// Calls that are made over and over, by one thread.
 #[derive(Clone, Copy)]
@@ -53,8 +60,11 @@ pub enum Steps {
     Movi,
     /// DISCARD and MAPTI of the event, by turns.
     DiscardMapti,
-    /// Of events that are mapped each time before, which isn't timed.
+    /// Of events that are mapped each time before, which isn't timed. LPIs are on at 16 virtual
+    /// processors of either machine.
     Discard,
+    /// The same, with LPIs on at all. The MAPTI before read a configuration byte at each.
+    DiscardAllOn,
     Inv,
     /// Of an event that is mapped.
     Mapti,
@@ -63,7 +73,7 @@ pub enum Steps {
 }
 
 /// All of them, with their names.
-pub const MANY: [(&str, Many); 16] = [
+pub const MANY: [(&str, Many); 17] = [
     ("signal", Many::Signal),
     ("signal-take", Many::SignalTake),
     ("signal-claim", Many::SignalClaim),
@@ -77,6 +87,7 @@ pub const MANY: [(&str, Many); 16] = [
     ("movi", Many::Steps(Steps::Movi)),
     ("discard-mapti", Many::Steps(Steps::DiscardMapti)),
     ("discard", Many::Steps(Steps::Discard)),
+    ("discard-all-on", Many::Steps(Steps::DiscardAllOn)),
     ("inv", Many::Steps(Steps::Inv)),
     ("mapti", Many::Steps(Steps::Mapti)),
     ("invall", Many::Steps(Steps::Invall)),
@@ -102,6 +113,14 @@ const HERE: Icid = Icid(0);
 const THERE: Icid = Icid(1);
 
 impl Many {
+    // At how many virtual processors LPIs are on, of a machine with so many: the first ones.
+    fn on(self, vcpus: u16) -> u16 {
+        match self {
+            Many::Steps(Steps::Discard) => vcpus.min(FEW_VCPUS),
+            _ => vcpus,
+        }
+    }
+
     // The calls. The event's collection goes to this virtual processor.
     fn rounds(self, alloc: Global, queue: Queue, vcpu: Vcpu) -> Result<Rounds, AllocError> {
         let intid = INTID;
@@ -144,7 +163,9 @@ impl Steps {
             Steps::DiscardMapti => {
                 queue.rounds_of_both(alloc, &Command::Discard { dev, ev }, &mapping())
             }
-            Steps::Discard => queue.rounds_of_discards(alloc, WIDE, HERE.0),
+            Steps::Discard | Steps::DiscardAllOn => {
+                queue.rounds_of_discards(alloc, WIDE, HERE.0)
+            }
             Steps::Inv => queue.rounds(alloc, &Command::Inv { dev, ev }),
             Steps::Mapti => queue.rounds(alloc, &mapping()),
             Steps::Invall => queue.rounds(alloc, &Command::Invall { icid: HERE }),
@@ -178,11 +199,11 @@ fn mapping() -> Command {
     mapti(DEV, EV, INTID, HERE.0)
 }
 
-// Turns LPIs on at each virtual processor, and maps the event. It goes to this one.
-fn prepared(alloc: Global, vcpus: u16, vcpu: Vcpu) -> Result<(Vec<Ask>, Queue), AllocError> {
+// Turns LPIs on at so many virtual processors, and maps the event. It goes to this one.
+fn prepared(alloc: Global, on: u16, vcpu: Vcpu) -> Result<(Vec<Ask>, Queue), AllocError> {
     let mut asks = Vec::new(alloc);
     let mut queue = Queue::new(0);
-    turn_on(&mut asks, vcpus)?;
+    turn_on(&mut asks, on)?;
     begin(&mut asks, 0)?;
     queue.run(&mut asks, &mapc(HERE.0, vcpu))?;
     queue.run(&mut asks, &mapc(THERE.0, Vcpu(0)))?;
@@ -191,8 +212,9 @@ fn prepared(alloc: Global, vcpus: u16, vcpu: Vcpu) -> Result<(Vec<Ask>, Queue), 
     Ok((asks, queue))
 }
 
-/// At least so many calls on a machine of so many virtual processors, of which the last one gets
-/// the interrupt.
+/// At least so many calls on a machine of so many virtual processors, of which the last one whose
+/// LPIs are on gets the interrupt. They are made in laps, and the quickest counts: laps are as long
+/// on either machine, also where what isn't timed between them takes longer on one.
 pub fn time_many<R: Clock + Wait>(
     rt: &R,
     alloc: Global,
@@ -238,15 +260,16 @@ fn lap_of_pass<R: Clock + Wait>(
 ) -> io::Result<Lap>
     requires { IsReady machine.now pass.old }
 {
-    let last = Vcpu(vcpus.saturating_sub(1));
-    let (asks, queue) = prepared(alloc, vcpus, last)?;
+    let on = many.on(vcpus);
+    let last = Vcpu(on.saturating_sub(1));
+    let (asks, queue) = prepared(alloc, on, last)?;
     let rounds = many.rounds(alloc, queue, last)?;
     make_each(rt, alloc, machine, pass, asks.as_slice());
     make_each(rt, alloc, machine, pass, rounds.before.as_slice());
     lap_of_rounds(rt, alloc, machine, pass, &rounds, count)
 }
 
-// At least so many calls.
+// At least so many calls, in laps.
 fn lap_of_rounds<R: Clock + Wait>(
     rt: &R,
     alloc: Global,
@@ -259,33 +282,43 @@ fn lap_of_rounds<R: Clock + Wait>(
 {
     let each = rounds.calls.len().max(1) as u64;
     let often = u64::from(count).div_ceil(each);
-    if !rounds.between.is_empty() {
-        return lap_of_each(rt, alloc, machine, pass, rounds, often);
-    }
-    let since = Instant::now(rt)?;
-    make_rounds(rt, alloc, machine, pass, rounds.calls.as_slice(), often);
-    Lap::since(rt, &since, often.wrapping_mul(each))
+    let laps = if rounds.between.is_empty() {
+        u64::from((count / CALLS_A_LAP).clamp(1, LAPS))
+    } else {
+        often
+    };
+    quickest_lap(
+        rt,
+        alloc,
+        machine,
+        pass,
+        rounds,
+        laps,
+        often.div_ceil(laps.max(1)),
+    )
 }
 
-// Of each round, without what is called between them.
-fn lap_of_each<R: Clock + Wait>(
+// The quickest of so many laps, each of so many rounds. What is called between laps isn't timed.
+fn quickest_lap<R: Clock + Wait>(
     rt: &R,
     alloc: Global,
     machine: &Machine,
     pass: &mut Pass,
     rounds: &Rounds,
+    laps: u64,
     often: u64,
 ) -> io::Result<Lap>
     requires { IsReady machine.now pass.old }
 {
-    let mut lap = Lap::new();
-    for _n in 0..often {
+    let calls = often.wrapping_mul(rounds.calls.len() as u64);
+    let mut quickest = Lap::new();
+    for _n in 0..laps {
         make_each(rt, alloc, machine, pass, rounds.between.as_slice());
         let since = Instant::now(rt)?;
-        make_each(rt, alloc, machine, pass, rounds.calls.as_slice());
-        lap.add(rt, &since, rounds.calls.len() as u64)?;
+        make_rounds(rt, alloc, machine, pass, rounds.calls.as_slice(), often);
+        quickest = Lap::since(rt, &since, calls)?.or_quicker(quickest);
     }
-    Ok(lap)
+    Ok(quickest)
 }
 
 // Makes calls in order, so often.

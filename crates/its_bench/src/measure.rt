@@ -31,6 +31,15 @@ impl Lap {
         Ok(())
     }
 
+    /// This one, or another of as many calls that took less time. No calls are no lap.
+    pub fn or_quicker(self, other: Lap) -> Lap {
+        if other.calls > 0 && other.spent < self.spent {
+            other
+        } else {
+            self
+        }
+    }
+
     /// How many tenths of a nanosecond a call took.
     pub fn tenths(&self) -> u128 {
         self.spent.as_nanos().saturating_mul(10) / u128::from(self.calls.max(1))
