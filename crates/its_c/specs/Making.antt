@@ -3,10 +3,10 @@ use Rattle.std.specs.Prelude.{◌≡◌, ◌≢◌, ◌≤◌, ℕ, Option, Some
 use Rattle.its_plain.specs.Described.{IsFirstState, IsRefused}
 use Rattle.its_plain.specs.declared.desc.Desc.{Desc}
 use Rattle.its_plain.specs.declared.desc.DescFault.{DescFault}
-use Rattle.its_c.specs.Codes as codes
-use Rattle.its_c.specs.Faults.{make_fault_out}
+use Rattle.its_numbers.specs.Codes as codes
+use Rattle.its_numbers.specs.Faults.{make_fault_out}
 use Rattle.its_c.specs.Keeping.{Held, kept_of, no_limit}
-use Rattle.its_c.specs.declared.faults.MakeFaultOut.{MakeFaultOut}
+use Rattle.its_numbers.specs.declared.faults.MakeFaultOut.{MakeFaultOut}
 
 -- there is a machine, in the first state of what the description makes; its description is kept, and it has no limit
 pub record IsMachineOf (d : Desc) (h : Held) : Type 0 where

@@ -1,6 +1,6 @@
 use Rattle.std.proofs.Common.{◌≡◌, ◌++◌, length, true}
-use Rattle.its_c.specs.Descriptions as spec
-use Rattle.its_c.proofs.description.fills_of.Given as goal
+use Rattle.its_numbers.specs.Descriptions as spec
+use Rattle.its_numbers.proofs.describing.fills_of.Given as goal
 
 -- those that are made and those that are left
 abbrev pub invariant-loop-rest : goal.invariant-loop-rest

@@ -15,11 +15,11 @@ use Rattle.its_plain.specs.declared.desc.Its.{Its}
 use Rattle.its_plain.specs.declared.desc.LpiTables.{LpiTables}
 use Rattle.its_plain.specs.declared.desc.LpiTables.TheVariants.{Described, Registers}
 use Rattle.its_plain.specs.declared.desc.Requesters.{Requesters}
-use Rattle.its_c.specs.declared.numbers.DescriptionIn.{DescriptionIn}
-use Rattle.its_c.specs.declared.numbers.FillIn.{FillIn}
-use Rattle.its_c.specs.declared.numbers.RedistributorIn.{RedistributorIn}
-use Rattle.its_c.specs.declared.numbers.RequestersIn.{RequestersIn}
-use Rattle.its_c.specs.declared.numbers.WindowIn.{WindowIn}
+use Rattle.its_numbers.specs.declared.numbers.DescriptionIn.{DescriptionIn}
+use Rattle.its_numbers.specs.declared.numbers.FillIn.{FillIn}
+use Rattle.its_numbers.specs.declared.numbers.RedistributorIn.{RedistributorIn}
+use Rattle.its_numbers.specs.declared.numbers.RequestersIn.{RequestersIn}
+use Rattle.its_numbers.specs.declared.numbers.WindowIn.{WindowIn}
 
 -- ---- ranges
 

@@ -1,6 +1,6 @@
 use Rattle.std.proofs.Common.{◌≡◌, length}
-use Rattle.its_c.specs.Descriptions as spec
-use Rattle.its_c.proofs.description.lengths_fit.Given as goal
+use Rattle.its_numbers.specs.Descriptions as spec
+use Rattle.its_numbers.proofs.describing.lengths_fit.Given as goal
 
 -- the fills that are left take what is left
 abbrev pub invariant-loop-rest : goal.invariant-loop-rest

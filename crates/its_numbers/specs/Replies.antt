@@ -1,7 +1,5 @@
 -- Replies as numbers.
-use Rattle.std.specs.Prelude.{◌≡◌, ◌⊎◌, ◌<◌, ℕ, List, true, false, slice_get}
-use Rattle.its_types.specs.Bitmap.{word_bit}
-use Rattle.its_types.specs.Ranges.{most_vcpus}
+use Rattle.std.specs.Prelude.{ℕ, List}
 use Rattle.its_command.specs.Opcodes.{opcode}
 use Rattle.its_plain.specs.declared.call.Ack.{Ack}
 use Rattle.its_plain.specs.declared.call.Ack.TheVariants as acks
@@ -17,16 +15,10 @@ use Rattle.its_plain.specs.declared.call.Reply.{Reply}
 use Rattle.its_plain.specs.declared.call.Reply.TheVariants as replies
 use Rattle.its_plain.specs.declared.call.Route.{Route}
 use Rattle.its_plain.specs.declared.call.Route.TheVariants as route
-use Rattle.its_plain.specs.Plain.{Plain}
-use Rattle.step_views.specs.Concern.{IsConcerned}
-use Rattle.step_views.specs.declared.destination.Destination.{Destination}
-use Rattle.step_views.specs.declared.destination.Destination.TheVariants as to
-use Rattle.its_c.specs.Codes as codes
-use Rattle.its_c.specs.declared.replies.DmaOut.{DmaOut}
-use Rattle.its_c.specs.declared.replies.EventOut.{EventOut}
-use Rattle.its_c.specs.declared.replies.SignalOut.{SignalOut}
-use Rattle.its_c.specs.declared.replies.AckOut.{AckOut}
-use Rattle.its_c.specs.declared.replies.StepOut.{StepOut}
+use Rattle.its_numbers.specs.declared.replies.DmaOut.{DmaOut}
+use Rattle.its_numbers.specs.declared.replies.SignalOut.{SignalOut}
+use Rattle.its_numbers.specs.declared.replies.AckOut.{AckOut}
+use Rattle.its_numbers.specs.declared.replies.StepOut.{StepOut}
 
 -- ---- signals
 
@@ -40,14 +32,6 @@ cause_number causes.LpisOff = 5
 abbrev pub signal_out : Signal → SignalOut
 signal_out (Delivered vcpu intid) = record { cause = 0; vcpu = vcpu.0; intid = intid.0 }
 signal_out (Dropped cause) = record { cause = cause_number cause; vcpu = 0; intid = 0 }
-
--- where an event leads: what isn't told is 0
-abbrev pub event_out : Destination → EventOut
-event_out to.NoDevice = record { cause = 2; intid = 0; collection = 0; vcpu = 0 }
-event_out to.NoEvent = record { cause = 3; intid = 0; collection = 0; vcpu = 0 }
-event_out (to.NoCollection intid icid) = record { cause = 4; intid = intid.0; collection = icid.0; vcpu = 0 }
-event_out (to.LpisOff intid icid vcpu) = record { cause = 5; intid = intid.0; collection = icid.0; vcpu = vcpu.0 }
-event_out (to.Processor intid icid vcpu) = record { cause = 0; intid = intid.0; collection = icid.0; vcpu = vcpu.0 }
 
 -- ---- writes by address
 
@@ -99,16 +83,3 @@ step_out steps.Idle c = record { outcome = 0; op = 0; reason = 0; address = 0; c
 step_out (steps.Ran op) c = record { outcome = 1; op = opcode op; reason = 0; address = 0; concerned = c }
 step_out (steps.Refused op reason) c = record { outcome = 2; op = opcode op; reason = reason_number reason; address = 0; concerned = c }
 step_out (steps.QueueFault at) c = record { outcome = 3; op = 0; reason = 0; address = at.0; concerned = c }
-
--- a virtual processor whose bit is clear is as it was
-abbrev pub UnconcernedStay : List ℕ → Plain → Plain → Type 0
-UnconcernedStay concerned u w =
-    (vcpu : ℕ) → vcpu < most_vcpus → word_bit concerned vcpu ≡ false → slice_get w.redistributors vcpu ≡ slice_get u.redistributors vcpu
-
--- one whose bit is set had its pending LPIs or its configuration read or changed by a command that wasn't refused
-abbrev pub AreConcerned : List ℕ → Plain → Type 0
-AreConcerned concerned u = (vcpu : ℕ) → vcpu < most_vcpus → word_bit concerned vcpu ≡ true → IsConcerned u 0 vcpu
-
--- what a step may answer, of a handle with a machine
-abbrev pub IsStepCode : ℕ → Type 0
-IsStepCode code = (code ≡ codes.done) ⊎ ((code ≡ codes.no_memory) ⊎ (code ≡ codes.full))

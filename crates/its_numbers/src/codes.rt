@@ -22,3 +22,10 @@ pub const HANDLE: u32 = 5;
 /// As many events are mapped as may be, or more, and the command would map another. Nothing
 /// changed.
 pub const FULL: u32 = 6;
+
+/// Another pass has a part that the call needs, or made a call meanwhile. Nothing was done, and the
+/// same call may be made again.
+pub const BUSY: u32 = 7;
+
+/// All places of the machine's history are used. Nothing was done, and no call will be made.
+pub const SPENT: u32 = 8;

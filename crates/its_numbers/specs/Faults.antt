@@ -12,8 +12,8 @@ use Rattle.its_plain.specs.declared.fault.SaveFault.{SaveFault}
 use Rattle.its_plain.specs.declared.fault.SaveFault.TheVariants as saves
 use Rattle.its_plain.specs.declared.fault.Table.{Table}
 use Rattle.its_plain.specs.declared.fault.Table.TheVariants as tables
-use Rattle.its_c.specs.declared.faults.MakeFaultOut.{MakeFaultOut}
-use Rattle.its_c.specs.declared.faults.SaveFaultOut.{SaveFaultOut}
+use Rattle.its_numbers.specs.declared.faults.MakeFaultOut.{MakeFaultOut}
+use Rattle.its_numbers.specs.declared.faults.SaveFaultOut.{SaveFaultOut}
 
 -- ---- saves
 

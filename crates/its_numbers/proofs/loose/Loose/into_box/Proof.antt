@@ -34,11 +34,11 @@ use Rattle.std_alloc.proofs.BoxSteps.Form as box
 use Rattle.std_alloc.proofs.BoxSteps.Steps.{box_out, box_in}
 use Rattle.std_alloc.specs.contracts.boxed.Box.from_raw as from_raw
 use Rattle.std_alloc.proofs.boxed.Box.from_raw.Met.{met}
-use Rattle.its_c.proofs.LooseValues.{pair, Loose, pair_typed, loose_out}
-use Rattle.its_c.specs.contracts.loose.Loose.into_box.{ended, clauses}
-use Rattle.its_c.specs.contracts.loose.Loose.into_box.Key.{name as own_name}
-use Rattle.its_c.proofs.loose.Loose.into_box.Statement.{statement}
-use Rattle.its_c.proofs.loose.Loose.into_box.Code as code
+use Rattle.its_numbers.proofs.LooseValues.{pair, Loose, pair_typed, loose_out}
+use Rattle.its_numbers.specs.contracts.loose.Loose.into_box.{ended, clauses}
+use Rattle.its_numbers.specs.contracts.loose.Loose.into_box.Key.{name as own_name}
+use Rattle.its_numbers.proofs.loose.Loose.into_box.Statement.{statement}
+use Rattle.its_numbers.proofs.loose.Loose.into_box.Code as code
 
 pub into_box_spec : {M : Type 1} → statement M
 into_box_spec 𝓤 𝓛 𝓜 𝓡 wired T A L LA g d dx dd allocates glue glued =

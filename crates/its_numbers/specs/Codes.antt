@@ -36,3 +36,11 @@ full = 6
 -- done where the bytes lie in one window
 abbrev pub if_inside : Bool → ℕ
 if_inside b = if b then done else outside
+
+-- another pass has a part that is needed, or made a call meanwhile
+abbrev pub busy : ℕ
+busy = 7
+
+-- all places are used
+abbrev pub spent : ℕ
+spent = 8

@@ -1,6 +1,6 @@
 //! Faults with all their numbers.
 ghost use Rattle.std.specs.Prelude.{◌≡◌};
-ghost use Rattle.its_c.specs.Faults as spec;
+ghost use Rattle.its_numbers.specs.Faults as spec;
 
 use gits_regs::{Register, offsets};
 use its_plain::{DescFault, Region, RestoreFault, SaveFault, Table};

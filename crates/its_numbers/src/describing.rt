@@ -2,7 +2,7 @@
 ghost use Rattle.std.specs.Prelude.{◌≡◌, true, IfOk, length, map};
 ghost use Rattle.its_plain.specs.Machine.{IsDescription, HasTablesFor};
 ghost use Rattle.its_plain.specs.Sound.{IsShape};
-ghost use Rattle.its_c.specs.Descriptions as spec;
+ghost use Rattle.its_numbers.specs.Descriptions as spec;
 
 use crate::numbers::{DescriptionIn, FillIn, RedistributorIn, RequestersIn, WindowIn};
 use gicr_regs::{GicrRegisters, GicrValues};

@@ -35,11 +35,11 @@ use Rattle.std_alloc.proofs.BoxSteps.Form as box
 use Rattle.std_alloc.proofs.BoxSteps.Steps.{box_out, box_in}
 use Rattle.std_alloc.specs.contracts.boxed.Box.into_raw_with_allocator as into_raw
 use Rattle.std_alloc.proofs.boxed.Box.into_raw_with_allocator.Met.{met}
-use Rattle.its_c.proofs.LooseValues.{pair, pair_typed, loose_in}
-use Rattle.its_c.specs.contracts.loose.Loose.of.{ended, clauses}
-use Rattle.its_c.specs.contracts.loose.Loose.of.Key.{name as own_name}
-use Rattle.its_c.proofs.loose.Loose.of.Statement.{statement}
-use Rattle.its_c.proofs.loose.Loose.of.Code as code
+use Rattle.its_numbers.proofs.LooseValues.{pair, pair_typed, loose_in}
+use Rattle.its_numbers.specs.contracts.loose.Loose.of.{ended, clauses}
+use Rattle.its_numbers.specs.contracts.loose.Loose.of.Key.{name as own_name}
+use Rattle.its_numbers.proofs.loose.Loose.of.Statement.{statement}
+use Rattle.its_numbers.proofs.loose.Loose.of.Code as code
 
 pub of_spec : {M : Type 1} → statement M
 of_spec 𝓤 𝓛 𝓜 𝓡 wired T A L LA g d dx dd allocates glue glued =

@@ -23,7 +23,7 @@ use Rattle.std.proofs.alloc.Calls.{Al, handle_tells}
 use Rattle.std.proofs.cell.Inside.{Good}
 use Rattle.std_alloc.specs.Box.Ownership.{box_owns}
 use Rattle.std_alloc.proofs.ResultValues.{and_tt}
-use Rattle.its_c.specs.contracts.loose.Loose as loose
+use Rattle.its_numbers.specs.contracts.loose.Loose as loose
 
 -- a struct of two fields
 abbrev pub pair : Val → Val → Val

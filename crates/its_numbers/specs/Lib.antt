@@ -1,0 +1,4 @@
+pub mod Codes
+pub mod Descriptions
+pub mod Faults
+pub mod Replies
