@@ -10,7 +10,7 @@ ghost use Rattle.its_numbers.specs.Replies as replies;
 use crate::handle::Handle;
 use crate::interrupts::{best, claim, show, take};
 use crate::pending::pending;
-use its_numbers::{HANDLE, AckOut};
+use its_numbers::{AckOut, HANDLE};
 use std::alloc::Global;
 
 /// A virtual processor acknowledges an LPI, which is then no longer pending.

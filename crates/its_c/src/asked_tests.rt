@@ -8,7 +8,10 @@ use crate::memory_calls::{its_forget, its_next_page};
 use crate::step_calls::{its_limit, its_needs, its_step, its_written};
 use crate::stretches::StretchOut;
 use crate::tests::{FILLS, NO_STEP, NUMBERS, PENDING, WINDOWS, drive, made};
-use its_numbers::{DONE, FAULT, FULL, HANDLE, NO_FAULT, OUTSIDE, RANGE, DescriptionIn, DmaOut, RequestersIn, SignalOut};
+use its_numbers::{
+    DONE, DescriptionIn, DmaOut, FAULT, FULL, HANDLE, NO_FAULT, OUTSIDE, RANGE, RequestersIn,
+    SignalOut,
+};
 use std::alloc::Global;
 
 // A machine whose frames stand at 0x9000_0000, with these requesters.

@@ -17,13 +17,13 @@ ghost use Rattle.its_c.specs.Words.{has_word, word as text};
 
 use crate::events::EventOut;
 use crate::handle::Handle;
-use crate::interrupts::{dma, signal};
 use crate::interrupts;
+use crate::interrupts::{dma, signal};
 use crate::registers::{
     read_lpi_register, read_register, stored_lpi_registers, write_lpi_register, write_register,
 };
 use crate::words::{put_word, word};
-use its_numbers::{DONE, HANDLE, RANGE, DmaOut, RedistributorIn, SignalOut};
+use its_numbers::{DONE, DmaOut, HANDLE, RANGE, RedistributorIn, SignalOut};
 use std::alloc::Global;
 
 /// A read of 4 or 8 bytes of the translator's control frame (IHI 0069, section 12.19).

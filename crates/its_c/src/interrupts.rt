@@ -16,7 +16,9 @@ ghost use Rattle.its_numbers.specs.Replies as replies;
 use crate::events::{EventOut, event_out};
 use crate::kept::Kept;
 use crate::ranges::has_vcpu;
-use its_numbers::{DONE, NO_MEMORY, RANGE, AckOut, DmaOut, SignalOut, ack_out, dma_out, signal_out};
+use its_numbers::{
+    AckOut, DONE, DmaOut, NO_MEMORY, RANGE, SignalOut, ack_out, dma_out, signal_out,
+};
 use its_plain::{Bytes64, Call, Reply};
 use its_types::{Addr, DeviceId, EventId, Intid, Vcpu};
 use std::alloc::Global;

@@ -6,7 +6,7 @@ use crate::making::{its_free, its_new};
 use crate::memory_calls::its_write_memory;
 use crate::step_calls::its_step;
 use crate::tests::{FILLS, NO_STEP, NUMBERS, WINDOWS, drive};
-use its_numbers::{DONE, NO_FAULT, RANGE, AckOut, DescriptionIn, RedistributorIn};
+use its_numbers::{AckOut, DONE, DescriptionIn, NO_FAULT, RANGE, RedistributorIn};
 use std::alloc::Global;
 
 const OFF: RedistributorIn = RedistributorIn {

@@ -8,7 +8,10 @@ use crate::handle::Handle;
 use crate::making::{its_free, its_new};
 use crate::memory_calls::{its_read_memory, its_write_memory};
 use crate::step_calls::{its_migrate, its_save, its_step};
-use its_numbers::{DONE, HANDLE, NO_FAULT, OUTSIDE, RANGE, AckOut, DescriptionIn, FillIn, RedistributorIn, SaveFaultOut, SignalOut, StepOut, WindowIn};
+use its_numbers::{
+    AckOut, DONE, DescriptionIn, FillIn, HANDLE, NO_FAULT, OUTSIDE, RANGE, RedistributorIn,
+    SaveFaultOut, SignalOut, StepOut, WindowIn,
+};
 use std::alloc::Global;
 
 /// A machine of two processors, whose tables are described.

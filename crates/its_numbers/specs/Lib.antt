@@ -2,3 +2,4 @@ pub mod Codes
 pub mod Descriptions
 pub mod Faults
 pub mod Replies
+pub mod Unmade

@@ -11,7 +11,7 @@ mod replies;
 
 pub use codes::{BUSY, DONE, FAULT, FULL, HANDLE, NO_MEMORY, OUTSIDE, RANGE, SPENT};
 pub use describing::{description, is_in_range};
-pub use faults::{MakeFaultOut, SaveFaultOut, make_fault_out, save_fault_out};
+pub use faults::{MakeFaultOut, NO_FAULT, SaveFaultOut, make_fault_out, save_fault_out};
 pub use loose::Loose;
 pub use numbers::{DescriptionIn, FillIn, RedistributorIn, RequestersIn, WindowIn};
 pub use replies::{AckOut, DmaOut, SignalOut, StepOut, ack_out, dma_out, signal_out, step_out};

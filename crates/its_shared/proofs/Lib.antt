@@ -1,0 +1,2 @@
+pub mod PassBox
+pub mod Answered
