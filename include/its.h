@@ -557,6 +557,10 @@ uint32_t its_pass_step(struct its_pass *pass, uint64_t *place, struct its_step_o
 uint32_t its_pass_write_memory(struct its_pass *pass, uint64_t address, const uint8_t *bytes,
                                size_t bytes_len, uint64_t *place);
 
+/* Copies 1 to 64 bytes of guest memory into `buffer`; else as for writing, but for ITS_NO_MEMORY. */
+uint32_t its_pass_read_memory(struct its_pass *pass, uint64_t address, uint8_t *buffer,
+                              size_t buffer_len, uint64_t *place);
+
 /*
  * Writes the tables to guest memory, as its_save does. Where the state can't be saved the call is made
  * and answers ITS_FAULT, with its place and `fault`. ITS_NO_MEMORY.

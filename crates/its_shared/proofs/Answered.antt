@@ -36,40 +36,48 @@ use Rattle.its_migrate.specs.Tries.{TriesSave, HadNoMemory}
 use Rattle.lpi_pending.specs.Rooms.{is_enable}
 use Rattle.its_shared.specs.Answers.{Answers, answer_of, answer_of_tried, answer_or_none}
 use Rattle.its_shared.specs.Asked as asked
+use Rattle.its_shared.specs.Knowing.{Known}
+use Rattle.its_shared.specs.declared.answer.Answer.{Answer}
+
+-- as it is said of a pass that knows this
+pub of_known : {T : Type 0} (c : Call) (f : T → Reply) (k l : Known) (w : View) (a b : Answer T) → k ≡ l → b ≡ a → Answers c f k.view w a
+    → Answers c f l.view w b
+of_known {T} c f k l w a b same is t =
+    subst (λ (x : Known). Answers c f x.view w b) same (subst (λ (x : Answer T). Answers c f k.view w x) (sym is) t)
 
 -- a call that needs one part
-pub of_part : {T : Type 0} (p : Part) (call : Call) (reply : T → Reply) (v w : View) (a : Attempt T) → TriesPart v p call reply w a
-    → Answers call reply v w (answer_of a)
-of_part p call reply v w (attempt.Done x) t = t.0
-of_part p call reply v w (attempt.Busy b) t = (t.1.stays, inl t.1.out)
-of_part p call reply v w (attempt.Raced r) t = (t.stays, inl t.out)
-of_part p call reply v w attempt.Spent t = (t.stays, t.spent)
+pub of_part : {T : Type 0} (p : Part) (c : Call) (f : T → Reply) (v w : View) (a : Attempt T) → TriesPart v p c f w a
+    → Answers c f v w (answer_of a)
+of_part p c f v w (attempt.Done x) t = t.0
+of_part p c f v w (attempt.Busy b) t = (t.1.stays, inl t.1.out)
+of_part p c f v w (attempt.Raced r) t = (t.stays, inl t.out)
+of_part p c f v w attempt.Spent t = (t.stays, t.spent)
 
 -- a call that needs two
-pub of_both : {T : Type 0} (p q : Part) (call : Call) (reply : T → Reply) (v w : View) (a : Attempt T) → TriesBoth v p q call reply w a
-    → Answers call reply v w (answer_of a)
-of_both p q call reply v w (attempt.Done x) t = t.0
-of_both p q call reply v w (attempt.Busy b) (inl t) = (t.1.stays, inl t.1.out)
-of_both p q call reply v w (attempt.Busy b) (inr t) = (t.1.stays, inl t.1.out)
-of_both p q call reply v w (attempt.Raced r) t = (t.stays, inl t.out)
-of_both p q call reply v w attempt.Spent t = (t.stays, t.spent)
+pub of_both : {T : Type 0} (p q : Part) (c : Call) (f : T → Reply) (v w : View) (a : Attempt T) → TriesBoth v p q c f w a
+    → Answers c f v w (answer_of a)
+of_both p q c f v w (attempt.Done x) t = t.0
+of_both p q c f v w (attempt.Busy b) (inl t) = (t.1.stays, inl t.1.out)
+of_both p q c f v w (attempt.Busy b) (inr t) = (t.1.stays, inl t.1.out)
+of_both p q c f v w (attempt.Raced r) t = (t.stays, inl t.out)
+of_both p q c f v w attempt.Spent t = (t.stays, t.spent)
 
 -- a message
-pub of_message : (m : Message) (call : Call) (v w : View) (a : Attempt Signal) → SignalsOnce v call m w a
-    → Answers call reply.Signal v w (answer_of a)
-of_message m call v w (attempt.Done x) t = t.2
-of_message m call v w (attempt.Busy b) t = (t.2.stays, inl t.2.out)
-of_message m call v w (attempt.Raced r) t = (t.2.stays, inl t.2.out)
-of_message m call v w attempt.Spent t = (t.2.stays, t.2.spent)
+pub of_message : (m : Message) (c : Call) (v w : View) (a : Attempt Signal) → SignalsOnce v c m w a
+    → Answers c reply.Signal v w (answer_of a)
+of_message m c v w (attempt.Done x) t = t.2
+of_message m c v w (attempt.Busy b) t = (t.2.stays, inl t.2.out)
+of_message m c v w (attempt.Raced r) t = (t.2.stays, inl t.2.out)
+of_message m c v w attempt.Spent t = (t.2.stays, t.2.spent)
 
 -- a write of the LPI registers
-pub of_parts : (vcpu offset size value : ℕ) (P : Part → Type 0) (reply : Unit {0} → Reply) (v w : View) (a : Attempt (Unit {0}))
-    → TriesParts P v (asked.write_lpi_register vcpu offset size value) reply w a
-    → Answers (asked.write_lpi_register vcpu offset size value) reply v w (answer_of a)
-of_parts vcpu offset size value P reply v w (attempt.Done x) t = t.2
-of_parts vcpu offset size value P reply v w (attempt.Busy b) t = (t.busy.stays, inl t.busy.out)
-of_parts vcpu offset size value P reply v w (attempt.Raced r) t = (t.2.stays, inl t.2.out)
-of_parts vcpu offset size value P reply v w attempt.Spent t = (t.2.stays, t.2.spent)
+pub of_parts : (vcpu offset size value : ℕ) (P : Part → Type 0) (f : Unit {0} → Reply) (v w : View) (a : Attempt (Unit {0}))
+    → TriesParts P v (asked.write_lpi_register vcpu offset size value) f w a
+    → Answers (asked.write_lpi_register vcpu offset size value) f v w (answer_of a)
+of_parts vcpu offset size value P f v w (attempt.Done x) t = t.2
+of_parts vcpu offset size value P f v w (attempt.Busy b) t = (t.busy.stays, inl t.busy.out)
+of_parts vcpu offset size value P f v w (attempt.Raced r) t = (t.2.stays, inl t.2.out)
+of_parts vcpu offset size value P f v w attempt.Spent t = (t.2.stays, t.2.spent)
 
 abbrev pub TriesGicr : Setup → (vcpu offset size value : ℕ) → View → View → Result (Attempt (Unit {0})) AllocError → Type 0
 TriesGicr s vcpu offset size value v w r =
@@ -92,11 +100,11 @@ of_write address bytes v w (Ok a) t = of_part part.Mem (asked.write_memory addre
 of_write address bytes v w (Err e) t = (t.stays, tt)
 
 -- a write by address
-of_dma_made : (call : Call) (to : Route) (v w : View) (a : Attempt Dma) → DmasOnce v call to w a → Answers call reply_of v w (answer_of a)
-of_dma_made call to v w (attempt.Done x) t = t.2
-of_dma_made call to v w (attempt.Busy b) t = (t.2.stays, inl t.2.out)
-of_dma_made call to v w (attempt.Raced r) t = (t.2.stays, inl t.2.out)
-of_dma_made call to v w attempt.Spent t = (t.2.stays, t.2.spent)
+of_dma_made : (c : Call) (to : Route) (v w : View) (a : Attempt Dma) → DmasOnce v c to w a → Answers c reply_of v w (answer_of a)
+of_dma_made c to v w (attempt.Done x) t = t.2
+of_dma_made c to v w (attempt.Busy b) t = (t.2.stays, inl t.2.out)
+of_dma_made c to v w (attempt.Raced r) t = (t.2.stays, inl t.2.out)
+of_dma_made c to v w attempt.Spent t = (t.2.stays, t.2.spent)
 
 pub of_dma : (d : Desc) (req : ℕ) (addr : Addr) (bytes : List ℕ) (v w : View) (r : Result (Attempt Dma) AllocError)
     → MatchResult r (λ a. DmasOnce v (dma_of d req addr bytes) (route_of d req addr.0 bytes) w a)

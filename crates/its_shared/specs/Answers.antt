@@ -1,10 +1,11 @@
 -- What a call of a pass that waits for nobody says of its pass.
-use Rattle.std.specs.Prelude.{◌≡◌, ◌⊎◌, length, Result, Ok, Err}
+use Rattle.std.specs.Prelude.{◌≡◌, ◌⊎◌, ℕ, length, Result, Ok, Err}
 use Rattle.its_types.specs.declared.machine.Placed.{Placed}
 use Rattle.its_plain.specs.History.{after}
 use Rattle.its_plain.specs.declared.call.Call.{Call}
 use Rattle.its_plain.specs.declared.call.Call.TheVariants as call
 use Rattle.its_plain.specs.declared.call.Reply.{Reply}
+use Rattle.its_plain.specs.declared.call.Reply.TheVariants as replies
 use Rattle.its_plain.specs.declared.call.Route.TheVariants as route
 use Rattle.its_steps.specs.Parts.{stamp_of}
 use Rattle.its_steps.specs.World.{View}
@@ -67,7 +68,16 @@ Wants other v w = ⊥
 -- seen more and tried turns. A call is busy only where another pass is out, or where it is late; spent only where the history is
 -- full; and wants memory only where its kind says so
 abbrev pub Answers : {T : Type 0} → Call → (T → Reply) → View → View → Answer T → Type 0
-Answers call reply v w (Made p) = IsPlaced v call (reply p.reply) p.place w
-Answers call reply v w Busy = Stays v w × ((¬ IsLone v) ⊎ IsLate call v w)
-Answers call reply v w Spent = Stays v w × (length w.seen ≡ v.setup.limits.place_last)
-Answers call reply v w NoMemory = Stays v w × Wants call v w
+Answers c reply v w (Made p) = IsPlaced v c (reply p.reply) p.place w
+Answers c reply v w Busy = Stays v w × ((¬ IsLone v) ⊎ IsLate c v w)
+Answers c reply v w Spent = Stays v w × (length w.seen ≡ v.setup.limits.place_last)
+Answers c reply v w NoMemory = Stays v w × Wants c v w
+
+-- bytes that were read are so many
+abbrev pub IsLong : ℕ → Reply → Type 0
+IsLong n (replies.Bytes bytes) = length bytes ≡ n
+IsLong n other = Unit {0}
+
+abbrev pub HasCount : ℕ → Answer Reply → Type 0
+HasCount n (Made p) = IsLong n p.reply
+HasCount n other = Unit {0}

@@ -38,6 +38,9 @@ step = call.Step 0
 abbrev pub write_memory : ℕ → List ℕ → Call
 write_memory address bytes = call.Poke (record { 0 = address }) bytes
 
+abbrev pub read_memory : ℕ → ℕ → Call
+read_memory address count = call.Peek (record { 0 = address }) count
+
 -- what a requester's write is by the description
 abbrev pub dma : Known → ℕ → ℕ → List ℕ → Call
 dma k requester address bytes = dma_of k.desc requester (record { 0 = address }) bytes

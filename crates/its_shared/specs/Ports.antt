@@ -5,8 +5,6 @@ use Rattle.its_types.specs.declared.machine.Word.{Word}
 use Rattle.its_steps.specs.World.{View, split_off, has_split}
 use Rattle.its_turns.specs.Machines.{view, IsOf}
 use Rattle.its_turns.specs.Told.{Looks}
-use Rattle.its_turns.specs.declared.machine.Machine.{Machine}
-use Rattle.its_turns.specs.declared.machine.Pass.{Pass}
 use Rattle.std_alloc.specs.Arc.{arc_value}
 use Rattle.its_shared.specs.Knowing.{Known}
 use Rattle.its_shared.specs.declared.port.Port.TheInside.{Inside}

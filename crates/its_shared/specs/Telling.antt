@@ -4,7 +4,7 @@ use Rattle.std.specs.Option.{option_map}
 use Rattle.its_plain.specs.declared.call.Call.{Call}
 use Rattle.its_plain.specs.declared.call.Reply.{Reply}
 use Rattle.its_plain.specs.declared.desc.Desc.{Desc}
-use Rattle.its_plain.specs.declared.call.Reply.TheVariants as reply
+use Rattle.its_plain.specs.declared.call.Reply.TheVariants as replies
 use Rattle.its_plain.specs.declared.call.Route.{Route}
 use Rattle.its_plain.specs.declared.call.StepReply.{StepReply}
 use Rattle.its_plain.specs.declared.call.StepReply.TheVariants as steps
@@ -42,9 +42,10 @@ out_after told (Made p) out = told p.reply out
 out_after told other out = out
 
 -- There is an answer of the call which the pass knows, and these are its number, its place and its reply
-pub record Tells {T O : Type 0} (of : T → ℕ) (told : T → O → O) (call : Call) (reply : T → Reply) (k l : Known) (code : ℕ) (place place' : ℕ) (out out' : O) : Type 0 where
+pub record Tells {T O : Type 0} (of : T → ℕ) (told : T → O → O) (asked : Call) (reply : T → Reply) (k l : Known)
+    (code place place' : ℕ) (out out' : O) : Type 0 where
   pub answer : Answer T
-  pub answers : Answers call reply k.view l.view answer
+  pub answers : Answers asked reply k.view l.view answer
   pub code_is : code ≡ code_of of answer
   pub place_is : place' ≡ place_after answer place
   pub out_is : out' ≡ out_after told answer out
@@ -58,6 +59,10 @@ abbrev pub as_told : {T O : Type 0} → (T → O) → T → O → O
 as_told f reply out = f reply
 
 -- ---- what is told of each kind of call
+
+-- the reply of a write of registers
+abbrev pub ok : Unit {0} → Reply
+ok done = replies.Ok
 
 -- nothing but the place
 abbrev pub nothing_told : {T : Type 0} → T → Unit {0} → Unit {0}
@@ -76,8 +81,17 @@ step_told step = step_out step (concerned_by step)
 
 -- a write of guest memory, whose bytes lie in one window or don't
 abbrev pub write_code : Reply → ℕ
-write_code reply.Ok = codes.done
+write_code replies.Ok = codes.done
 write_code other = codes.outside
+
+-- a read of guest memory
+abbrev pub read_code : Reply → ℕ
+read_code (replies.Bytes bytes) = codes.done
+read_code other = codes.outside
+
+abbrev pub bytes_told : Reply → List ℕ → List ℕ
+bytes_told (replies.Bytes bytes) out = bytes
+bytes_told other out = out
 
 abbrev pub save_code : Result (Unit {0}) SaveFault → ℕ
 save_code (Ok done) = codes.done

@@ -7,7 +7,7 @@ use cmd_engine::{try_read_reg, try_step, try_write_reg};
 use device_port::{Dma, signal_once, try_dma};
 use dma_routes::route;
 use gicr_lpi::{try_read_gicr, try_write_gicr};
-use guest_port::try_poke;
+use guest_port::{try_peek, try_poke};
 use its_migrate::try_save;
 use its_plain::{Ack, Bytes64, Reply, Route, SaveFault, Signal, StepReply};
 use its_types::{Addr, DeviceId, EventId, Intid, Open, Vcpu};
@@ -21,12 +21,11 @@ impl Port {
     ghost use Rattle.its_plain.specs.Doorbells.{route_of};
     ghost use Rattle.its_plain.specs.declared.call.Call.TheVariants as call;
     ghost use Rattle.its_plain.specs.declared.call.Reply.TheVariants as reply;
-    ghost use Rattle.its_shared.specs.Answers.{Answers};
+    ghost use Rattle.its_shared.specs.Answers.{Answers, HasCount};
     ghost use Rattle.its_shared.specs.Asked as asked;
     ghost use Rattle.its_shared.specs.Knowing as spec;
 
     /// A device's message.
-    #[tactic(auto, using(crate::proofs::Answered::of_message))]
     pub fn signal(&mut self, device: u32, event: u32) -> Answer<Signal>
         ensures desc { self.new.desc ≡ self.old.desc }
         ensures answer { Answers (asked.signal device event) reply.Signal
@@ -42,7 +41,6 @@ impl Port {
     }
 
     /// A virtual processor acknowledges its lowest LPI.
-    #[tactic(auto, using(crate::proofs::Answered::of_both))]
     pub fn take(&mut self, vcpu: u16) -> Answer<Ack>
         requires { spec.has_vcpu self.old vcpu ≡ true }
         ensures desc { self.new.desc ≡ self.old.desc }
@@ -53,7 +51,6 @@ impl Port {
     }
 
     /// The LPI that it would acknowledge.
-    #[tactic(auto, using(crate::proofs::Answered::of_both))]
     pub fn show(&mut self, vcpu: u16) -> Answer<Ack>
         requires { spec.has_vcpu self.old vcpu ≡ true }
         ensures desc { self.new.desc ≡ self.old.desc }
@@ -64,7 +61,6 @@ impl Port {
     }
 
     /// The LPI that comes first by priority below a mask.
-    #[tactic(auto, using(crate::proofs::Answered::of_both))]
     pub fn best(&mut self, vcpu: u16, mask: u8) -> Answer<Ack>
         requires { spec.has_vcpu self.old vcpu ≡ true }
         ensures desc { self.new.desc ≡ self.old.desc }
@@ -75,7 +71,6 @@ impl Port {
     }
 
     /// A virtual processor acknowledges this LPI.
-    #[tactic(auto, using(crate::proofs::Answered::of_both))]
     pub fn claim(&mut self, vcpu: u16, intid: u32) -> Answer<Ack>
         requires { spec.has_vcpu self.old vcpu ≡ true }
         ensures desc { self.new.desc ≡ self.old.desc }
@@ -92,7 +87,6 @@ impl Port {
     }
 
     /// A read of the translator's control frame.
-    #[tactic(auto, using(crate::proofs::Answered::of_part))]
     pub fn read_register(&mut self, offset: u32, size: u8) -> Answer<u64>
         ensures desc { self.new.desc ≡ self.old.desc }
         ensures answer { Answers (asked.read_register offset size) reply.Value
@@ -102,7 +96,6 @@ impl Port {
     }
 
     /// A write of the translator's control frame.
-    #[tactic(auto, using(crate::proofs::Answered::of_write_register))]
     pub fn write_register(&mut self, offset: u32, size: u8, value: u64) -> Answer<()>
         ensures desc { self.new.desc ≡ self.old.desc }
         ensures answer { Answers (asked.write_register offset size value) (λ _. reply.Ok)
@@ -112,7 +105,6 @@ impl Port {
     }
 
     /// A read of the LPI registers of a redistributor.
-    #[tactic(auto, using(crate::proofs::Answered::of_part))]
     pub fn read_lpi_register(&mut self, vcpu: u16, offset: u32, size: u8) -> Answer<u64>
         requires { spec.has_vcpu self.old vcpu ≡ true }
         ensures desc { self.new.desc ≡ self.old.desc }
@@ -130,7 +122,6 @@ impl Port {
     }
 
     /// A write of the LPI registers of a redistributor.
-    #[tactic(auto, using(crate::proofs::Answered::of_gicr))]
     pub fn write_lpi_register(&mut self, vcpu: u16, offset: u32, size: u8, value: u64) -> Answer<()>
         requires { spec.has_vcpu self.old vcpu ≡ true }
         ensures desc { self.new.desc ≡ self.old.desc }
@@ -149,7 +140,6 @@ impl Port {
     }
 
     /// The translator takes its next command.
-    #[tactic(auto, using(crate::proofs::Answered::of_step))]
     pub fn step(&mut self) -> Answer<StepReply>
         ensures desc { self.new.desc ≡ self.old.desc }
         ensures answer { Answers asked.step reply.Step
@@ -159,7 +149,6 @@ impl Port {
     }
 
     /// A write of guest memory.
-    #[tactic(auto, using(crate::proofs::Answered::of_write))]
     pub fn write_memory(&mut self, address: u64, bytes: Bytes64) -> Answer<Reply>
         ensures desc { self.new.desc ≡ self.old.desc }
         ensures answer { Answers (asked.write_memory address bytes) (λ r. r)
@@ -168,8 +157,17 @@ impl Port {
         answered_if(try_poke(&self.machine, &mut self.pass, &Open, Addr(address), &bytes))
     }
 
+    /// A read of guest memory.
+    pub fn read_memory(&mut self, address: u64, count: u8) -> Answer<Reply>
+        ensures desc { self.new.desc ≡ self.old.desc }
+        ensures answer { Answers (asked.read_memory address count) (λ r. r)
+            self.old.view self.new.view result }
+        ensures count { HasCount count result }
+    {
+        answered(try_peek(&self.machine, &mut self.pass, &Open, Addr(address), count))
+    }
+
     /// The tables are written to guest memory.
-    #[tactic(auto, using(crate::proofs::Answered::of_save))]
     pub fn save(&mut self, alloc: Global) -> Answer<Result<(), SaveFault>>
         ensures desc { self.new.desc ≡ self.old.desc }
         ensures answer { Answers call.Save save_reply
@@ -179,7 +177,6 @@ impl Port {
     }
 
     /// A requester's write at an address.
-    #[tactic(auto, using(crate::proofs::Answered::of_dma))]
     pub fn dma(&mut self, req: u32, address: u64, bytes: Bytes64) -> Answer<Dma>
         ensures desc { self.new.desc ≡ self.old.desc }
         ensures answer { Answers (asked.dma self.old req address bytes)

@@ -37,6 +37,7 @@ impl Model for Port {
 impl Port {
     ghost use Rattle.std.specs.Prelude.{◌≡◌, ◌<◌, ◌≤◌, ◌^◌, true, length, MatchOption};
     ghost use Rattle.its_plain.specs.Machine.{IsDescription};
+    ghost use Rattle.its_types.specs.Ranges.{most_vcpus};
     ghost use Rattle.its_shared.specs.Knowing as spec;
     ghost use Rattle.its_shared.specs.Making.{IsSharedFrom};
     ghost use Rattle.its_shared.specs.Ports.{Splits};
@@ -79,9 +80,10 @@ impl Port {
         Some(Port { machine, pass })
     }
 
-    /// How many virtual processors there are.
+    /// Whether there is a virtual processor of this number.
     pub fn has_vcpu(&self, vcpu: u32) -> bool
-        ensures { result ≡ spec.has_vcpu self.now vcpu }
+        ensures has { result ≡ spec.has_vcpu self.now vcpu }
+        ensures few { result ≡ true → vcpu < most_vcpus }
     {
         vcpu < u32::from(self.machine.vcpus())
     }

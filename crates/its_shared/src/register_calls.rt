@@ -4,8 +4,8 @@ ghost use Rattle.its_numbers.specs.Codes as codes;
 ghost use Rattle.its_plain.specs.declared.call.Reply.TheVariants as reply;
 ghost use Rattle.its_shared.specs.Asked as asked;
 ghost use Rattle.its_shared.specs.Asked.{has_register, is_size};
-ghost use Rattle.its_shared.specs.Telling.{InPass, Tells, is_done, machine_of, nothing_told};
-ghost use Rattle.its_shared.specs.Telling.{value_told};
+ghost use Rattle.its_shared.specs.Telling.{InPass, Tells, is_done, machine_of, nothing_told, ok};
+ghost use Rattle.its_shared.specs.Telling.{ok, value_told};
 
 use crate::pass::Pass;
 use crate::registers::{read_lpi_register, read_register, write_lpi_register, write_register};
@@ -51,7 +51,7 @@ pub extern "C" fn its_pass_write_register(
         → (result ≡ codes.range) × (l ≡ k) × (place.new ≡ place.old)) }
     ensures told { InPass pass.old pass.new (λ k l. is_size size ≡ true
         → Tells is_done nothing_told (asked.write_register offset size value)
-        (λ _. reply.Ok) k l result place.old place.new tt tt) }
+        ok k l result place.old place.new tt tt) }
 {
     if pass.is_empty() {
         return HANDLE;
@@ -101,7 +101,7 @@ pub extern "C" fn its_pass_write_lpi_register(
         → (result ≡ codes.range) × (l ≡ k) × (place.new ≡ place.old)) }
     ensures told { InPass pass.old pass.new (λ k l. has_register k vcpu size ≡ true
         → Tells is_done nothing_told (asked.write_lpi_register vcpu offset size value)
-        (λ _. reply.Ok) k l result place.old place.new tt tt) }
+        ok k l result place.old place.new tt tt) }
 {
     if pass.is_empty() {
         return HANDLE;

@@ -4,7 +4,7 @@ ghost use Rattle.its_numbers.specs.Codes as codes;
 ghost use Rattle.its_plain.specs.declared.call.Reply.TheVariants as reply;
 ghost use Rattle.its_shared.specs.Asked as asked;
 ghost use Rattle.its_shared.specs.Asked.{has_register};
-ghost use Rattle.its_shared.specs.Telling.{Tells, is_done, nothing_told, value_told};
+ghost use Rattle.its_shared.specs.Telling.{Tells, is_done, nothing_told, ok, value_told};
 
 use crate::port::Port;
 use crate::telling::{tell_unit, tell_value};
@@ -32,7 +32,7 @@ pub fn write_register(port: &mut Port, offset: u32, size: u32, value: u64, place
     ensures range { asked.is_size size ≡ false → (result ≡ codes.range)
         × (port.new ≡ port.old) × (place.new ≡ place.old) }
     ensures told { asked.is_size size ≡ true → Tells is_done nothing_told (asked.write_register
-        offset size value) (λ _. reply.Ok)
+        offset size value) ok
         port.old port.new result place.old place.new tt tt }
 {
     if !is_size(size) {
@@ -78,7 +78,7 @@ pub fn write_lpi_register(
     ensures range { has_register port.old vcpu size ≡ false → (result ≡ codes.range)
         × (port.new ≡ port.old) × (place.new ≡ place.old) }
     ensures told { has_register port.old vcpu size ≡ true → Tells is_done nothing_told
-        (asked.write_lpi_register vcpu offset size value) (λ _. reply.Ok)
+        (asked.write_lpi_register vcpu offset size value) ok
         port.old port.new result place.old place.new tt tt }
 {
     if !(port.has_vcpu(vcpu) && is_size(size)) {

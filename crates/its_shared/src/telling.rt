@@ -1,7 +1,8 @@
 //! Answers as numbers.
-ghost use Rattle.std.specs.Prelude.{◌≡◌};
+ghost use Rattle.std.specs.Prelude.{◌≡◌, length};
 ghost use Rattle.device_port.specs.Dmas as dmas;
 ghost use Rattle.its_numbers.specs.Replies.{signal_out, ack_out};
+ghost use Rattle.its_shared.specs.Answers.{HasCount, IsLong};
 ghost use Rattle.its_shared.specs.Telling as spec;
 
 use crate::answer::Answer;
@@ -143,6 +144,38 @@ pub fn tell_write(answer: Answer<Reply>, place: &mut u64) -> u32
         Answer::Busy => BUSY,
         Answer::Spent => SPENT,
         Answer::NoMemory => NO_MEMORY,
+    }
+}
+
+/// A read of guest memory's.
+pub fn tell_bytes(answer: Answer<Reply>, place: &mut u64, buffer: &mut [u8]) -> u32
+    requires { HasCount (length buffer.old) answer }
+    ensures code { result ≡ spec.code_of spec.read_code answer }
+    ensures place { place.new ≡ spec.place_after answer place.old }
+    ensures out { buffer.new ≡ spec.out_after spec.bytes_told answer buffer.old }
+{
+    match answer {
+        Answer::Made(placed) => {
+            *place = placed.place;
+            tell_read(placed.reply, buffer)
+        }
+        Answer::Busy => BUSY,
+        Answer::Spent => SPENT,
+        Answer::NoMemory => NO_MEMORY,
+    }
+}
+
+fn tell_read(reply: Reply, buffer: &mut [u8]) -> u32
+    requires { IsLong (length buffer.old) reply }
+    ensures code { result ≡ spec.read_code reply }
+    ensures out { buffer.new ≡ spec.bytes_told reply buffer.old }
+{
+    match reply {
+        Reply::Bytes(bytes) => {
+            buffer.copy_from_slice(bytes.as_slice());
+            DONE
+        }
+        _ => OUTSIDE,
     }
 }
 

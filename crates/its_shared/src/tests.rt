@@ -7,7 +7,9 @@ use crate::register_calls::{
     its_pass_read_lpi_register, its_pass_read_register, its_pass_write_lpi_register,
     its_pass_write_register,
 };
-use crate::step_calls::{its_pass_save, its_pass_step, its_pass_write_memory};
+use crate::step_calls::{
+    its_pass_read_memory, its_pass_save, its_pass_step, its_pass_write_memory,
+};
 use its_numbers::{
     AckOut, DONE, DescriptionIn, DmaOut, FillIn, HANDLE, NO_FAULT, OUTSIDE, RANGE, SaveFaultOut,
     SignalOut, StepOut, WindowIn,
@@ -255,5 +257,11 @@ fn each_other_call_once(rt: HostRuntime) {
         DONE
     );
     assert_eq!(rt; place, 28);
+    let mut entry = [0; 8];
+    assert_eq!(rt;
+        its_pass_read_memory(&mut root, 0x800c_0010, &mut entry, &mut place),
+        DONE
+    );
+    assert_eq!(rt; u64::from_le_bytes(entry), 0x2000_0000);
     assert_eq!(rt; its_pass_free(&mut root, alloc), DONE);
 }
