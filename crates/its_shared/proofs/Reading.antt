@@ -1,5 +1,5 @@
 -- How long what a read of guest memory gives is.
-use Rattle.std.proofs.Common.{◌≡◌, ℕ, List, [], ◌∷◌, ◌++◌, length, Option, Some, None, Bool, true, false, refl, sym, subst, ◌∙◌, ap}
+use Rattle.std.proofs.Common.{◌≡◌, ℕ, List, [], ◌∷◌, ◌++◌, length, Option, Some, None, Bool, true, false, refl, sym, subst, if◌then◌else◌}
 use Rattle.guest_windows.proofs.Laws.{length-read_at}
 use Rattle.guest_windows.specs.Windows.{read_at}
 use Rattle.its_types.specs.declared.machine.Placed.{Placed}

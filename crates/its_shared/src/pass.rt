@@ -51,7 +51,7 @@ impl Pass {
     pub fn of(port: Box<Port>) -> Pass
         ensures { result.known ≡ Some port.value }
     {
-        Pass::of_loose(Loose::of(port))
+        Pass::of_loose(Loose::of(sent(port)))
     }
 
     /// The pass as a box, which frees it when it is dropped.
@@ -82,4 +82,11 @@ impl Pass {
             alloc,
         }
     }
+}
+
+// The value, of a type that may go to another thread: a handle does.
+fn sent<T: Send>(value: T) -> T
+    ensures { result ≡ value }
+{
+    value
 }
