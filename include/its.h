@@ -6,6 +6,8 @@
  * but the three functions of a heap (docs/LIBRARY.md), memcpy, memmove and memset. Calls with one
  * handle are made one at a time; two handles have nothing in common.
  *
+ * Beside it there is a machine that threads share, by passes, in a library of its own: see its_share.
+ *
  * Every pointer is borrowed for the call alone, and nothing is kept of it. A list is a pointer and
  * how many elements it has; at none the pointer isn't read. No two pointers of a call point into the
  * same memory. Every number may be anything: what is out of its range is answered. Where a call
@@ -14,7 +16,7 @@
  * The numbers of an enum have words, which its_text tells, but for those of its_route and its_list;
  * where docs/FORMATS.md prints a word, it is that. Fields have 32 or 64 bits, and no enum's type.
  * Section numbers are those of Arm IHI 0069.
- * examples/monitor/check_header.py holds this file to crates/its_c/src.
+ * examples/monitor/check_header.py holds this file to the sources of both libraries.
  *
  * SPDX-License-Identifier: MIT OR Apache-2.0
  */
@@ -39,7 +41,9 @@ enum its_answer {
     ITS_RANGE = 3,     /* a number is out of its range */
     ITS_FAULT = 4,     /* the description or the state is at fault, as the call tells */
     ITS_HANDLE = 5,    /* the handle has no machine; at its_new: it has one already */
-    ITS_FULL = 6       /* of its_step: as many events are mapped as its_limit allows, or more */
+    ITS_FULL = 6,      /* of its_step: as many events are mapped as its_limit allows, or more */
+    ITS_BUSY = 7,      /* of a pass: another has a part that is needed, or made a call meanwhile; try again */
+    ITS_SPENT = 8      /* of a pass: all places of the machine's history are used, and no call is made */
 };
 
 /*
@@ -463,6 +467,105 @@ uint32_t its_written(struct its_handle *handle, struct its_stretch_out *list, si
  * a save and a new machine do, in place. Errors as for its_save.
  */
 uint32_t its_migrate(struct its_handle *handle, struct its_save_fault_out *fault);
+
+/* ---- A machine that threads share (libits_shared.a) ---- */
+
+/*
+ * A pass of a machine that threads share, or none. Begin with ITS_NO_PASS, and never read, write or copy
+ * `at`. Calls with one pass are made one at a time; passes are used beside each other, by any threads. It
+ * may go to another thread between two calls.
+ *
+ * Every call that answers ITS_DONE has a place, which it tells: all calls of the machine's passes are one
+ * history, counted from 0, in which each is answered as by a machine of one caller that makes the calls of
+ * the places before it. A call's place is after those of all calls that its pass has made before it.
+ *
+ * No call waits. Where another pass has a part that it needs (the maps, guest memory, a shard of the cache,
+ * one of a processor's two parts), or makes a call meanwhile, it answers ITS_BUSY: nothing happened, and the
+ * same call may be made again. its_wait.h has how to wait between two tries. ITS_SPENT comes after 2^40 - 1
+ * calls: no call of this machine is made any more; save by then, and make another. What a call tells is as
+ * it was where it answers neither ITS_DONE, nor ITS_FAULT or ITS_OUTSIDE, which are replies with a place.
+ */
+struct its_pass {
+    void *at;
+};
+#define ITS_NO_PASS { NULL }
+
+/*
+ * Makes a machine that threads share, and gives its first pass, the root, to a handle that has none.
+ * Arguments and answers as of its_new, but that ITS_HANDLE is of a handle with a pass.
+ */
+uint32_t its_share(struct its_pass *root, const struct its_description_in *numbers,
+                   const struct its_window_in *windows, size_t windows_len, const uint64_t *pending,
+                   size_t pending_len, const struct its_redistributor_in *redistributors,
+                   size_t redistributors_len, const struct its_requesters_in *requesters,
+                   size_t requesters_len, const struct its_fill_in *fills, size_t fills_len,
+                   const uint8_t *bytes, size_t bytes_len, struct its_make_fault_out *fault);
+
+/*
+ * Splits another pass off the root, for a handle that has none: one for each thread, or each device queue.
+ * It makes no call of the history. ITS_RANGE where `root` is not the root, or has given 2^32 - 1 passes;
+ * ITS_NO_MEMORY; ITS_HANDLE where `root` has no pass or `pass` has one.
+ */
+uint32_t its_split(struct its_pass *root, struct its_pass *pass);
+
+/*
+ * Frees a pass, the root too, in any order; the handle has none then. The machine and its memory go with
+ * the last pass. ITS_HANDLE where it had none.
+ */
+uint32_t its_pass_free(struct its_pass *pass);
+
+/* A device's message. ITS_BUSY, ITS_SPENT, ITS_HANDLE, as each call of a pass that follows. */
+uint32_t its_pass_signal(struct its_pass *pass, uint32_t device, uint32_t event, uint64_t *place,
+                         struct its_signal_out *out);
+
+/* A write by a requester at an address, as by its_dma. ITS_NO_MEMORY, ITS_RANGE. */
+uint32_t its_pass_dma(struct its_pass *pass, uint32_t requester, uint64_t address,
+                      const uint8_t *bytes, size_t bytes_len, uint64_t *place,
+                      struct its_dma_out *out);
+
+/* Acknowledgements, as by its_take, its_show, its_best and its_claim. ITS_RANGE. */
+uint32_t its_pass_take(struct its_pass *pass, uint32_t vcpu, uint64_t *place,
+                       struct its_ack_out *out);
+uint32_t its_pass_show(struct its_pass *pass, uint32_t vcpu, uint64_t *place,
+                       struct its_ack_out *out);
+uint32_t its_pass_best(struct its_pass *pass, uint32_t vcpu, uint32_t mask, uint64_t *place,
+                       struct its_ack_out *out);
+uint32_t its_pass_claim(struct its_pass *pass, uint32_t vcpu, uint32_t intid, uint64_t *place,
+                        struct its_ack_out *out);
+
+/* Registers, as by its_read_register and the others. ITS_RANGE; ITS_NO_MEMORY of the last. */
+uint32_t its_pass_read_register(struct its_pass *pass, uint32_t offset, uint32_t size,
+                                uint64_t *place, uint64_t *out);
+uint32_t its_pass_write_register(struct its_pass *pass, uint32_t offset, uint32_t size,
+                                 uint64_t value, uint64_t *place);
+uint32_t its_pass_read_lpi_register(struct its_pass *pass, uint32_t vcpu, uint32_t offset,
+                                    uint32_t size, uint64_t *place, uint64_t *out);
+uint32_t its_pass_write_lpi_register(struct its_pass *pass, uint32_t vcpu, uint32_t offset,
+                                     uint32_t size, uint64_t value, uint64_t *place);
+
+/*
+ * The translator takes the next command of its queue. ITS_NO_MEMORY only of a command that adds a device,
+ * an event or a collection. All bits of `concerned` are set where a command ran, also those of processors
+ * that it didn't concern or that there aren't, and none where no command ran or it was refused.
+ */
+uint32_t its_pass_step(struct its_pass *pass, uint64_t *place, struct its_step_out *out);
+
+/*
+ * Copies 1 to 64 bytes to guest memory, which one window has; else the call is made and answers
+ * ITS_OUTSIDE, with its place. ITS_NO_MEMORY, ITS_RANGE at another count.
+ */
+uint32_t its_pass_write_memory(struct its_pass *pass, uint64_t address, const uint8_t *bytes,
+                               size_t bytes_len, uint64_t *place);
+
+/* Copies 1 to 64 bytes of guest memory into `buffer`; else as for writing, but for ITS_NO_MEMORY. */
+uint32_t its_pass_read_memory(struct its_pass *pass, uint64_t address, uint8_t *buffer,
+                              size_t buffer_len, uint64_t *place);
+
+/*
+ * Writes the tables to guest memory, as its_save does. Where the state can't be saved the call is made
+ * and answers ITS_FAULT, with its place and `fault`. ITS_NO_MEMORY.
+ */
+uint32_t its_pass_save(struct its_pass *pass, uint64_t *place, struct its_save_fault_out *fault);
 
 #ifdef __cplusplus
 }

@@ -1,5 +1,6 @@
 #!/usr/bin/env bash
-# Holds an archive to what a monitor is told of it: it has each call of the header, and calls nothing but
+# Holds an archive to what a monitor is told of it: it has each call of the header that is its own (those of
+# passes, or the others), and calls nothing but
 # three functions of memory and three of a heap. So it has no outline atomics (__aarch64_*), which gcc's
 # library would have to give it, and no call of a C library besides.
 #
@@ -12,6 +13,12 @@ defined=$("$nm" -g --defined-only "$1" | awk 'NF == 3 {print $3}' | sort -u) || 
 wanted=$("$nm" -u "$1" | awk 'NF == 2 {print $2}' | sort -u | comm -23 - <(echo "$defined"))
 allowed=$(printf '%s\n' memcpy memmove memset rattle_alloc rattle_dealloc rattle_realloc)
 calls=$(sed -nE 's/^uint32_t (its_[a-z_]+)\(.*/\1/p' "$2" | sort -u)
+of_passes='^its_(share|split|pass_[a-z_]+)$'
+if echo "$defined" | grep -q '^its_share$'; then
+    calls=$(echo "$calls" | grep -E "$of_passes")
+else
+    calls=$(echo "$calls" | grep -vE "$of_passes")
+fi
 failed=0
 
 # Prints each line of the second list with what is wrong with it.

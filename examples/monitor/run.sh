@@ -60,7 +60,7 @@ build() {
 
 if command -v "$compiler" >/dev/null; then
     if command -v python3 >/dev/null; then
-        python3 check_header.py ../../include/its.h ../../crates/its_c/src/*.rt >"$work/header.c" &&
+        python3 check_header.py ../../include/its.h ../../crates/its_{numbers,c,shared}/src/*.rt >"$work/header.c" &&
             "$compiler" -std=c11 -Wall -Wextra -Werror -I../../include -fsyntax-only "$work/header.c"
         tell "header against sources" $?
     else
@@ -84,6 +84,22 @@ if command -v "$compiler" >/dev/null; then
     tell "the memory of 512 processors, and of a save" $?
     build refusals refusals.c && $runner "$work/refusals"
     tell "each allocation refused in turn" $?
+    shared=../../crates/its_shared/out/libits_shared.a
+    if [ -n "$runner" ]; then
+        : # threads are tried on x86-64
+    elif [ -f "$shared" ]; then
+        ./check_symbols.sh "$shared" ../../include/its.h
+        tell "what the archive of passes calls and has" $?
+        "$compiler" -std=c11 -Wall -Wextra -Werror -pedantic -O2 -pthread -I../../include threads.c heap.c "$shared" -o "$work/threads" &&
+            "$work/threads" >"$work/report"
+        tell "threads that share a machine" $?
+        if [ -x "$program" ]; then
+            "$program" check <"$work/report" | diff - <(echo agrees)
+            tell "what they were told is one history" "$((PIPESTATUS[0] | PIPESTATUS[1]))"
+        fi
+    else
+        echo "$shared isn't there: 'rt lib' in crates/its_shared builds it. No threads are tried"
+    fi
     if [ "${1:-}" = times ]; then
         build times times.c heap.c && "$work/times"
         tell "times" $?

@@ -14,7 +14,7 @@ use Rattle.its_c.specs.contracts.kept.Kept.{the_row as machine_row}
 use Rattle.its_c.proofs.kept.Kept.TheLaws as machine
 use Rattle.its_c.specs.contracts.handle.Handle.{the_row as handle_row}
 use Rattle.its_c.specs.declared.handle.Handle.{Handle}
-use Rattle.its_c.proofs.LooseValues.{Loose}
+use Rattle.its_numbers.proofs.LooseValues.{Loose}
 
 abbrev pub machine_box : Bx
 machine_box = record {

@@ -1,4 +1,3 @@
-pub mod LooseValues
 pub mod HandleBox
 pub mod PieceSteps
 pub mod ToldLists

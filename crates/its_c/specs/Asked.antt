@@ -12,7 +12,7 @@ use Rattle.its_types.specs.Ranges.{most_vcpus}
 use Rattle.gicr_regs.specs.Registers.{values_of}
 use Rattle.gicr_regs.specs.declared.values.GicrRegisters.{GicrRegisters}
 use Rattle.its_c.specs.Keeping.{Held}
-use Rattle.its_c.specs.declared.numbers.RedistributorIn.{RedistributorIn}
+use Rattle.its_numbers.specs.declared.numbers.RedistributorIn.{RedistributorIn}
 
 abbrev as_given : GicrRegisters → RedistributorIn
 as_given v = record { ctlr = v.ctlr; propbaser = v.propbaser; pendbaser = v.pendbaser }

@@ -1,7 +1,6 @@
 pub mod Asked
-pub mod Codes
-pub mod Descriptions
-pub mod Faults
+pub mod Concerns
+pub mod Events
 pub mod Held
 pub mod Insides
 pub mod Keeping
@@ -9,7 +8,6 @@ pub mod Lending
 pub mod Making
 pub mod Owning
 pub mod Pieces
-pub mod Replies
 pub mod Saves
 pub mod Stretches
 pub mod Words

@@ -5,9 +5,9 @@ use Rattle.its_plain.specs.Regions.{savable}
 use Rattle.its_plain.specs.Answer.{save_left}
 use Rattle.its_plain.specs.Saved.{moved}
 use Rattle.its_plain.specs.declared.fault.SaveFault.{SaveFault}
-use Rattle.its_c.specs.Codes as codes
-use Rattle.its_c.specs.Faults.{save_fault_out}
-use Rattle.its_c.specs.declared.faults.SaveFaultOut.{SaveFaultOut}
+use Rattle.its_numbers.specs.Codes as codes
+use Rattle.its_numbers.specs.Faults.{save_fault_out}
+use Rattle.its_numbers.specs.declared.faults.SaveFaultOut.{SaveFaultOut}
 
 -- the state can be saved, and memory has the tables
 abbrev pub IsSaved : Plain → Plain → Type 0

@@ -7,7 +7,9 @@ word_from first [] n = []
 word_from first (w ∷ ws) n = if n == first then w else word_from (first + 1) ws n
 
 abbrev pub answers : List (List ℕ)
-answers = codes "done" ∷ codes "no-memory" ∷ codes "outside" ∷ codes "range" ∷ codes "fault" ∷ codes "handle" ∷ codes "full" ∷ []
+answers =
+    codes "done" ∷ codes "no-memory" ∷ codes "outside" ∷ codes "range" ∷ codes "fault" ∷ codes "handle" ∷ codes "full"
+    ∷ codes "busy" ∷ codes "spent" ∷ []
 
 abbrev pub make_faults : List (List ℕ)
 make_faults =

@@ -3,15 +3,14 @@ ghost use Rattle.std.specs.Prelude.{◌≡◌, ◌≢◌, ◌≤◌, true, false
 ghost use Rattle.its_plain.specs.Plain.{pending_of};
 ghost use Rattle.its_c.specs.Asked.{has_vcpu as has, has_mask, shown, acknowledged, first_below};
 ghost use Rattle.its_c.specs.Asked.{claimed_by, after_claim, HasFirst, SameFrom};
-ghost use Rattle.its_c.specs.Codes as codes;
+ghost use Rattle.its_numbers.specs.Codes as codes;
 ghost use Rattle.its_c.specs.Held.{InMachine, beside};
-ghost use Rattle.its_c.specs.Replies as replies;
+ghost use Rattle.its_numbers.specs.Replies as replies;
 
-use crate::codes::HANDLE;
 use crate::handle::Handle;
 use crate::interrupts::{best, claim, show, take};
 use crate::pending::pending;
-use crate::replies::AckOut;
+use its_numbers::{AckOut, HANDLE};
 use std::alloc::Global;
 
 /// A virtual processor acknowledges an LPI, which is then no longer pending.

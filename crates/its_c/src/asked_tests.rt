@@ -1,16 +1,17 @@
 //! What a caller asks beside the life of a machine: writes by address, what a step needs, limits,
 //! tables, pages and words.
 use crate::calls::{its_dma, its_event, its_text};
-use crate::codes::{DONE, FAULT, FULL, HANDLE, OUTSIDE, RANGE};
-use crate::faults::NO_FAULT;
+use crate::events::EventOut;
 use crate::handle::Handle;
 use crate::making::{its_free, its_new};
 use crate::memory_calls::{its_forget, its_next_page};
-use crate::numbers::{DescriptionIn, RequestersIn};
-use crate::replies::{DmaOut, EventOut, SignalOut};
 use crate::step_calls::{its_limit, its_needs, its_step, its_written};
 use crate::stretches::StretchOut;
 use crate::tests::{FILLS, NO_STEP, NUMBERS, PENDING, WINDOWS, drive, made};
+use its_numbers::{
+    DONE, DescriptionIn, DmaOut, FAULT, FULL, HANDLE, NO_FAULT, OUTSIDE, RANGE, RequestersIn,
+    SignalOut,
+};
 use std::alloc::Global;
 
 // A machine whose frames stand at 0x9000_0000, with these requesters.

@@ -9,21 +9,21 @@ ghost use Rattle.step_views.specs.Destinations.{destination};
 ghost use Rattle.its_c.specs.Asked.{has_vcpu as has, is_size as is, has_register, signalled};
 ghost use Rattle.its_c.specs.Asked.{stored, is_count, wrote, wrote_reply, wrote_left};
 ghost use Rattle.its_c.specs.Asked.{HasFirst, SameFrom};
-ghost use Rattle.its_c.specs.Codes as codes;
+ghost use Rattle.its_numbers.specs.Codes as codes;
 ghost use Rattle.its_c.specs.Held.{InMachine, InHeld, beside};
-ghost use Rattle.its_c.specs.Replies as replies;
+ghost use Rattle.its_c.specs.Events.{event_out};
+ghost use Rattle.its_numbers.specs.Replies as replies;
 ghost use Rattle.its_c.specs.Words.{has_word, word as text};
 
-use crate::codes::{DONE, HANDLE, RANGE};
+use crate::events::EventOut;
 use crate::handle::Handle;
 use crate::interrupts;
 use crate::interrupts::{dma, signal};
-use crate::numbers::RedistributorIn;
 use crate::registers::{
     read_lpi_register, read_register, stored_lpi_registers, write_lpi_register, write_register,
 };
-use crate::replies::{DmaOut, EventOut, SignalOut};
 use crate::words::{put_word, word};
+use its_numbers::{DONE, DmaOut, HANDLE, RANGE, RedistributorIn, SignalOut};
 use std::alloc::Global;
 
 /// A read of 4 or 8 bytes of the translator's control frame (IHI 0069, section 12.19).
@@ -213,7 +213,7 @@ pub extern "C" fn its_event(handle: &mut Handle, device: u32, event: u32, out: &
     ensures kept { beside handle.new ≡ beside handle.old }
     ensures done { InMachine handle.old handle.new (λ u w. result ≡ codes.done) }
     ensures told { InMachine handle.old handle.new (λ u w.
-        out.new ≡ replies.event_out (destination u 0 device event)) }
+        out.new ≡ event_out (destination u 0 device event)) }
     ensures same { InMachine handle.old handle.new (λ u w. w ≡ u) }
 {
     if handle.is_empty() {

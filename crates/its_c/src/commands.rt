@@ -5,13 +5,13 @@ ghost use Rattle.owned_machine.specs.Whole.{step_adds};
 ghost use Rattle.its_types.specs.Bitmap.{word_bit};
 ghost use Rattle.its_types.specs.Ranges.{most_vcpus};
 ghost use Rattle.owned_parts.specs.RedistSets.{is_in};
-ghost use Rattle.its_c.specs.Codes as codes;
+ghost use Rattle.its_numbers.specs.Codes as codes;
 ghost use Rattle.its_c.specs.Keeping.{with_machine, is_full};
-ghost use Rattle.its_c.specs.Replies as replies;
+ghost use Rattle.its_c.specs.Concerns.{UnconcernedStay, AreConcerned, IsStepCode};
+ghost use Rattle.its_numbers.specs.Replies as replies;
 
-use crate::codes::{DONE, FULL, NO_MEMORY};
 use crate::kept::{Kept, StepError};
-use crate::replies::{StepOut, step_out};
+use its_numbers::{DONE, FULL, NO_MEMORY, StepOut, step_out};
 use its_types::{MOST_VCPUS, put_bit};
 use owned_parts::RedistSet;
 use std::alloc::Global;
@@ -22,15 +22,15 @@ pub fn step(kept: &mut Kept, alloc: Global, out: &mut StepOut) -> u32
     ensures told { result ≡ codes.done → out.new
         ≡ replies.step_out (plain.step_reply kept.old.machine 0) out.new.concerned }
     ensures unconcerned { result ≡ codes.done
-        → replies.UnconcernedStay out.new.concerned kept.old.machine kept.new.machine }
+        → UnconcernedStay out.new.concerned kept.old.machine kept.new.machine }
     ensures concerned { result ≡ codes.done
-        → replies.AreConcerned out.new.concerned kept.old.machine }
+        → AreConcerned out.new.concerned kept.old.machine }
     ensures left { result ≡ codes.done
         → kept.new ≡ with_machine kept.old (plain.step_left kept.old.machine 0) }
     ensures full { result ≡ codes.full → is_full kept.old.limit kept.old.machine ≡ true }
     ensures where_full { is_full kept.old.limit kept.old.machine ≡ true → result ≡ codes.full }
     ensures rare { result ≡ codes.no_memory → step_adds kept.old.machine 0 ≡ true }
-    ensures codes { replies.IsStepCode result }
+    ensures codes { IsStepCode result }
     ensures refused { result ≢ codes.done → (out.new ≡ out.old) × (kept.new ≡ kept.old) }
 {
     let concerned = words_of(concerned(kept.machine().parts(), 0));

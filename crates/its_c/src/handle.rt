@@ -5,7 +5,7 @@ ghost use Rattle.its_plain.specs.Plain.{plain_code};
 ghost use Rattle.its_c.specs.Keeping.{Held};
 
 use crate::kept::Kept;
-use crate::loose::Loose;
+use its_numbers::Loose;
 use std::alloc::Global;
 use std::marker::Model;
 use std::ptr::null_mut;

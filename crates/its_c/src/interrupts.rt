@@ -8,15 +8,16 @@ ghost use Rattle.its_c.specs.Asked.{is_count, wrote, wrote_reply, wrote_left};
 ghost use Rattle.its_plain.specs.Doorbells.{route_of};
 ghost use Rattle.owned_machine.specs.Whole.{may_want_memory};
 ghost use Rattle.step_views.specs.Destinations.{destination};
-ghost use Rattle.its_c.specs.Codes as codes;
+ghost use Rattle.its_numbers.specs.Codes as codes;
 ghost use Rattle.its_c.specs.Keeping.{with_machine};
-ghost use Rattle.its_c.specs.Replies as replies;
+ghost use Rattle.its_c.specs.Events.{event_out};
+ghost use Rattle.its_numbers.specs.Replies as replies;
 
-use crate::codes::{DONE, NO_MEMORY, RANGE};
+use crate::events::{EventOut, event_out};
 use crate::kept::Kept;
 use crate::ranges::has_vcpu;
-use crate::replies::{
-    AckOut, DmaOut, EventOut, SignalOut, ack_out, dma_out, event_out, signal_out,
+use its_numbers::{
+    AckOut, DONE, DmaOut, NO_MEMORY, RANGE, SignalOut, ack_out, dma_out, signal_out,
 };
 use its_plain::{Bytes64, Call, Reply};
 use its_types::{Addr, DeviceId, EventId, Intid, Vcpu};
@@ -79,7 +80,7 @@ pub fn dma(
 /// Where an event leads.
 pub fn event(kept: &Kept, device: u32, event: u32, out: &mut EventOut) -> u32
     ensures done { result ≡ codes.done }
-    ensures told { out.new ≡ replies.event_out (destination kept.now.machine 0 device event) }
+    ensures told { out.new ≡ event_out (destination kept.now.machine 0 device event) }
 {
     let parts = kept.machine().parts();
     *out = event_out(step_views::event(parts, 0, DeviceId(device), EventId(event)));

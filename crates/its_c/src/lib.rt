@@ -6,26 +6,21 @@ mod ack_calls;
 #[cfg(test)]
 mod asked_tests;
 mod calls;
-mod codes;
 mod commands;
-mod description;
-mod faults;
+mod events;
 mod handle;
 mod interrupts;
 mod kept;
 mod lent;
-mod loose;
 mod making;
 #[cfg(test)]
 mod many_tests;
 mod memory;
 mod memory_calls;
-mod numbers;
 mod pending;
 mod pieces;
 mod ranges;
 mod registers;
-mod replies;
 mod saves;
 mod step_calls;
 mod stretches;
@@ -33,8 +28,6 @@ mod stretches;
 mod tests;
 mod words;
 
-pub use faults::{MakeFaultOut, SaveFaultOut};
+pub use events::EventOut;
 pub use handle::Handle;
-pub use numbers::{DescriptionIn, FillIn, RedistributorIn, RequestersIn, WindowIn};
-pub use replies::{AckOut, DmaOut, EventOut, SignalOut, StepOut};
 pub use stretches::StretchOut;

@@ -2,17 +2,18 @@
 ghost use Rattle.std.specs.Prelude.{◌≡◌, ◌≢◌, false, Err, None, IfOk, IfErr, is_none, length};
 ghost use Rattle.its_plain.specs.Described.{IsMadeFrom};
 ghost use Rattle.its_plain.specs.Machine.{IsDescription};
-ghost use Rattle.its_c.specs.Codes as codes;
-ghost use Rattle.its_c.specs.Descriptions.{is_in_range as in_range, description_of};
-ghost use Rattle.its_c.specs.Making.{IsMade, IsUnmade};
+ghost use Rattle.its_numbers.specs.Codes as codes;
+ghost use Rattle.its_numbers.specs.Descriptions.{is_in_range as in_range, description_of};
+ghost use Rattle.its_c.specs.Making.{IsMade};
+ghost use Rattle.its_numbers.specs.Unmade.{IsUnmade};
 
-use crate::codes::{DONE, FAULT, HANDLE, NO_MEMORY, RANGE};
-use crate::description::{description, is_in_range};
-use crate::faults::{MakeFaultOut, make_fault_out};
 use crate::handle::Handle;
 use crate::kept::Kept;
-use crate::numbers::{DescriptionIn, FillIn, RedistributorIn, RequestersIn, WindowIn};
 use dma_routes::requesters_are_devices;
+use its_numbers::{
+    DONE, DescriptionIn, FAULT, FillIn, HANDLE, MakeFaultOut, NO_MEMORY, RANGE, RedistributorIn,
+    RequestersIn, WindowIn, description, is_in_range, make_fault_out,
+};
 use its_plain::{Desc, MakeError};
 use its_types::Listed;
 use owned_machine::Machine;

@@ -1,15 +1,12 @@
 //! A machine of as many processors as there may be, of which the last one gets an interrupt.
 use crate::ack_calls::{its_show, its_take};
 use crate::calls::{its_write_lpi_register, its_write_register};
-use crate::codes::{DONE, RANGE};
-use crate::faults::NO_FAULT;
 use crate::handle::Handle;
 use crate::making::{its_free, its_new};
 use crate::memory_calls::its_write_memory;
-use crate::numbers::{DescriptionIn, RedistributorIn};
-use crate::replies::AckOut;
 use crate::step_calls::its_step;
 use crate::tests::{FILLS, NO_STEP, NUMBERS, WINDOWS, drive};
+use its_numbers::{AckOut, DONE, DescriptionIn, NO_FAULT, RANGE, RedistributorIn};
 use std::alloc::Global;
 
 const OFF: RedistributorIn = RedistributorIn {

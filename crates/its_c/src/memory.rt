@@ -1,16 +1,16 @@
 //! Guest memory: read and written in stretches of any length, made zero, and walked by its pages.
 ghost use Rattle.std.specs.Prelude.{◌≡◌, ◌⊎◌, ◌<◌, ◌≤◌, length, replicate};
 ghost use Rattle.guest_windows.specs.Windows.{inside};
-ghost use Rattle.its_c.specs.Codes as codes;
+ghost use Rattle.its_numbers.specs.Codes as codes;
 ghost use Rattle.its_c.specs.Keeping.{with_machine};
 ghost use Rattle.its_c.specs.Pieces.{IsStretch, IsRead, IsNextPage};
 ghost use Rattle.owned_machine.specs.Pieces.{written_to};
 
-use crate::codes::{DONE, NO_MEMORY, OUTSIDE};
 use crate::kept::Kept;
 use crate::pieces::{is_stretch, read};
 use crate::stretches::StretchOut;
 use guest_windows::Memory;
+use its_numbers::{DONE, NO_MEMORY, OUTSIDE};
 use its_types::Addr;
 use std::alloc::Global;
 

@@ -2,14 +2,14 @@
 ghost use Rattle.std.specs.Prelude.{◌≡◌, ◌⊎◌, None, length, replicate};
 ghost use Rattle.guest_windows.specs.Windows.{inside};
 ghost use Rattle.owned_machine.specs.Pieces.{written_to};
-ghost use Rattle.its_c.specs.Codes as codes;
+ghost use Rattle.its_numbers.specs.Codes as codes;
 ghost use Rattle.its_c.specs.Held.{InMachine, beside};
 ghost use Rattle.its_c.specs.Pieces.{IsStretch, IsRead, IsNextPage};
 
-use crate::codes::HANDLE;
 use crate::handle::Handle;
 use crate::memory::{forget, memory_of, next_page, read_memory, write_memory};
 use crate::stretches::StretchOut;
+use its_numbers::HANDLE;
 use std::alloc::Global;
 
 /// Guest memory is read into a buffer.

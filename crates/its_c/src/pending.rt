@@ -2,11 +2,11 @@
 ghost use Rattle.std.specs.Prelude.{◌≡◌, ◌≢◌, ◌≤◌, true, false, length, map};
 ghost use Rattle.its_plain.specs.Plain.{pending_of};
 ghost use Rattle.its_c.specs.Asked.{has_vcpu as has, HasFirst, SameFrom};
-ghost use Rattle.its_c.specs.Codes as codes;
+ghost use Rattle.its_numbers.specs.Codes as codes;
 
-use crate::codes::{DONE, NO_MEMORY, RANGE};
 use crate::kept::Kept;
 use crate::ranges::has_vcpu;
+use its_numbers::{DONE, NO_MEMORY, RANGE};
 use its_types::Intid;
 use std::alloc::Global;
 

@@ -5,13 +5,12 @@ ghost use Rattle.its_plain.specs.Answer.{written, gicr_read, gicr_written};
 ghost use Rattle.its_plain.specs.Plain.{regs_of};
 ghost use Rattle.owned_machine.specs.Whole.{enables};
 ghost use Rattle.its_c.specs.Asked.{is_size as is, has_vcpu as has, has_register, stored};
-ghost use Rattle.its_c.specs.Codes as codes;
+ghost use Rattle.its_numbers.specs.Codes as codes;
 ghost use Rattle.its_c.specs.Keeping.{with_machine};
 
-use crate::codes::{DONE, NO_MEMORY, RANGE};
 use crate::kept::Kept;
-use crate::numbers::RedistributorIn;
 use crate::ranges::{has_vcpu, is_size};
+use its_numbers::{DONE, NO_MEMORY, RANGE, RedistributorIn};
 use its_plain::{Call, Reply};
 use its_types::Vcpu;
 use std::alloc::Global;

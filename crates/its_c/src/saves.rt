@@ -1,11 +1,10 @@
 //! Saves and migrations (KVM document arm-vgic-its).
 ghost use Rattle.std.specs.Prelude.{◌≡◌};
-ghost use Rattle.its_c.specs.Codes as codes;
+ghost use Rattle.its_numbers.specs.Codes as codes;
 ghost use Rattle.its_c.specs.Saves.{IsSaved, IsMoved, IsUnsaved};
 
-use crate::codes::{DONE, FAULT, NO_MEMORY};
-use crate::faults::{SaveFaultOut, save_fault_out};
 use crate::kept::Kept;
+use its_numbers::{DONE, FAULT, NO_MEMORY, SaveFaultOut, save_fault_out};
 use its_plain::{Call, Reply, SaveError};
 use std::alloc::Global;
 

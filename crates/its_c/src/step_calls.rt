@@ -2,21 +2,20 @@
 ghost use Rattle.std.specs.Prelude.{◌≡◌, ◌≢◌, ◌⊎◌, true, None, is_some, length};
 ghost use Rattle.its_plain.specs.Answer.{step_reply, step_left};
 ghost use Rattle.owned_machine.specs.Whole.{step_adds};
-ghost use Rattle.its_c.specs.Codes as codes;
+ghost use Rattle.its_numbers.specs.Codes as codes;
 ghost use Rattle.its_c.specs.Held.{InMachine, InHeld, beside};
 ghost use Rattle.its_c.specs.Keeping.{is_full};
-ghost use Rattle.its_c.specs.Replies as replies;
+ghost use Rattle.its_c.specs.Concerns.{UnconcernedStay, AreConcerned, IsStepCode};
+ghost use Rattle.its_numbers.specs.Replies as replies;
 ghost use Rattle.its_c.specs.Saves.{IsSaved, IsMoved, IsUnsaved};
 ghost use Rattle.its_c.specs.Stretches.{needed as reads, written_tables as tables};
 ghost use Rattle.its_c.specs.Stretches.{HasFirstOf, SameRest};
 
-use crate::codes::{DONE, HANDLE};
 use crate::commands::step;
-use crate::faults::SaveFaultOut;
 use crate::handle::Handle;
-use crate::replies::StepOut;
 use crate::saves::{migrate, save};
 use crate::stretches::{StretchOut, needed, written};
+use its_numbers::{DONE, HANDLE, SaveFaultOut, StepOut};
 use std::alloc::Global;
 
 /// The stretches of guest memory that the next step reads: as many as the list takes, whose rest
@@ -45,13 +44,13 @@ pub extern "C" fn its_needs(handle: &mut Handle, list: &mut [StretchOut], count:
 pub extern "C" fn its_step(handle: &mut Handle, alloc: Global, out: &mut StepOut) -> u32
     ensures empty { handle.old.machine ≡ None → (result ≡ codes.handle) × (out.new ≡ out.old) }
     ensures kept { beside handle.new ≡ beside handle.old }
-    ensures codes { InMachine handle.old handle.new (λ u w. replies.IsStepCode result) }
+    ensures codes { InMachine handle.old handle.new (λ u w. IsStepCode result) }
     ensures told { InMachine handle.old handle.new (λ u w. result ≡ codes.done
         → out.new ≡ replies.step_out (step_reply u 0) out.new.concerned) }
     ensures unconcerned { InMachine handle.old handle.new (λ u w.
-        result ≡ codes.done → replies.UnconcernedStay out.new.concerned u w) }
+        result ≡ codes.done → UnconcernedStay out.new.concerned u w) }
     ensures concerned { InMachine handle.old handle.new (λ u w.
-        result ≡ codes.done → replies.AreConcerned out.new.concerned u) }
+        result ≡ codes.done → AreConcerned out.new.concerned u) }
     ensures left { InMachine handle.old handle.new (λ u w.
         result ≡ codes.done → w ≡ step_left u 0) }
     ensures full { InHeld handle.old handle.new (λ h k.

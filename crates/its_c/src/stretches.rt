@@ -2,13 +2,13 @@
 ghost use Rattle.std.specs.Prelude.{◌≡◌, ◌≢◌, ◌⊎◌, ◌≤◌, ◌+◌, length, map, slice_set};
 ghost use Rattle.guest_windows.specs.Fields.{pairs};
 ghost use Rattle.its_types.specs.Ranges.{most_vcpus};
-ghost use Rattle.its_c.specs.Codes as codes;
+ghost use Rattle.its_numbers.specs.Codes as codes;
 ghost use Rattle.its_c.specs.Stretches.{needed, written_tables as tables, stretch_out};
 ghost use Rattle.its_c.specs.Stretches.{HasFirstOf, SameRest};
 ghost use Rattle.step_views.specs.Pairs.{pair_of};
 
-use crate::codes::{DONE, NO_MEMORY};
 use crate::kept::Kept;
+use its_numbers::{DONE, NO_MEMORY};
 use its_types::Addr;
 use std::alloc::Global;
 use step_views::{Needs, Stretch, needs};

@@ -4,14 +4,14 @@ use crate::calls::{
     its_read_lpi_register, its_read_register, its_signal, its_stored_lpi_registers,
     its_write_lpi_register, its_write_register,
 };
-use crate::codes::{DONE, HANDLE, OUTSIDE, RANGE};
-use crate::faults::{NO_FAULT, SaveFaultOut};
 use crate::handle::Handle;
 use crate::making::{its_free, its_new};
 use crate::memory_calls::{its_read_memory, its_write_memory};
-use crate::numbers::{DescriptionIn, FillIn, RedistributorIn, WindowIn};
-use crate::replies::{AckOut, SignalOut, StepOut};
 use crate::step_calls::{its_migrate, its_save, its_step};
+use its_numbers::{
+    AckOut, DONE, DescriptionIn, FillIn, HANDLE, NO_FAULT, OUTSIDE, RANGE, RedistributorIn,
+    SaveFaultOut, SignalOut, StepOut, WindowIn,
+};
 use std::alloc::Global;
 
 /// A machine of two processors, whose tables are described.

@@ -34,6 +34,8 @@ fn answer(number: u32) -> &'static str
         4 => "fault",
         5 => "handle",
         6 => "full",
+        7 => "busy",
+        8 => "spent",
         _ => "",
     }
 }

@@ -32,7 +32,7 @@ use Rattle.std.proofs.alloc.Calls.{handle_tells}
 use Rattle.std_heap.specs.contracts.Global.{the_row as global_row}
 use Rattle.std_alloc.proofs.BoxSteps.Form.{P, owning}
 use Rattle.its_c.proofs.HandleBox.{machine_box}
-use Rattle.its_c.proofs.LooseValues.{pair, null_typed}
+use Rattle.its_numbers.proofs.LooseValues.{pair, null_typed}
 use Rattle.its_c.specs.declared.handle.Handle.{Handle}
 use Rattle.its_c.specs.contracts.handle.Handle as handle
 use Rattle.its_c.specs.contracts.handle.Handle.empty as f

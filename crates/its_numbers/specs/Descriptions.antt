@@ -1,0 +1,112 @@
+-- Descriptions as they are given in numbers, and the description that they stand for.
+use Rattle.std.specs.Prelude.{ℕ, ◌-◌, Bool, false, ◌&&◌, ◌==◌, nat_le, nat_lt, if◌then◌else◌, List, [], ◌∷◌, take, drop, map, Option, Some, None}
+use Rattle.gicr_regs.specs.declared.values.GicrRegisters.{GicrRegisters}
+use Rattle.gicr_regs.specs.declared.values.GicrValues.{GicrValues}
+use Rattle.gits_regs.specs.declared.values.RegValues.{RegValues}
+use Rattle.its_types.specs.Ranges.{most_vcpus}
+use Rattle.its_types.specs.declared.ids.Addr.{Addr}
+use Rattle.its_types.specs.declared.machine.Limits.{Limits}
+use Rattle.its_types.specs.declared.machine.Profile.{Profile}
+use Rattle.its_types.specs.declared.machine.Profile.TheVariants.{One, Two}
+use Rattle.its_types.specs.declared.machine.Shape.{Shape}
+use Rattle.its_plain.specs.declared.desc.Desc.{Desc}
+use Rattle.its_plain.specs.declared.desc.Fill.{Fill}
+use Rattle.its_plain.specs.declared.desc.Its.{Its}
+use Rattle.its_plain.specs.declared.desc.LpiTables.{LpiTables}
+use Rattle.its_plain.specs.declared.desc.LpiTables.TheVariants.{Described, Registers}
+use Rattle.its_plain.specs.declared.desc.Requesters.{Requesters}
+use Rattle.its_numbers.specs.declared.numbers.DescriptionIn.{DescriptionIn}
+use Rattle.its_numbers.specs.declared.numbers.FillIn.{FillIn}
+use Rattle.its_numbers.specs.declared.numbers.RedistributorIn.{RedistributorIn}
+use Rattle.its_numbers.specs.declared.numbers.RequestersIn.{RequestersIn}
+use Rattle.its_numbers.specs.declared.numbers.WindowIn.{WindowIn}
+
+-- ---- ranges
+
+abbrev pub between : ℕ → ℕ → ℕ → Bool
+between least most n = nat_le least n && nat_le n most
+
+-- each number by itself
+abbrev pub numbers_in_range : DescriptionIn → Bool
+numbers_in_range d =
+    between 1 most_vcpus d.vcpus && between 16 20 d.device_bits && between 14 20 d.lpi_bits && between 1 2 d.profile && nat_lt d.programmed 2 && nat_lt d.restored 3
+    && nat_lt d.linux_guest 2 && nat_lt d.has_frames 2
+
+-- so many pending tables, or so many redistributors' registers, as virtual processors
+abbrev pub counts_in_range : DescriptionIn → ℕ → ℕ → Bool
+counts_in_range d pending redistributors = if d.programmed == 0 then pending == d.vcpus else (redistributors == d.vcpus)
+
+-- the fills take n bytes together
+abbrev pub lengths_fit : List FillIn → ℕ → Bool
+lengths_fit [] n = n == 0
+lengths_fit (f ∷ fills) n = nat_le f.length n && lengths_fit fills (n - f.length)
+
+-- all of them
+abbrev pub is_in_range : DescriptionIn → ℕ → ℕ → List FillIn → ℕ → Bool
+is_in_range d pending redistributors fills n = numbers_in_range d && counts_in_range d pending redistributors && lengths_fit fills n
+
+-- ---- the description
+
+abbrev pub profile_of : ℕ → Profile
+profile_of n = if n == 1 then One else Two
+
+abbrev pub window_of : WindowIn → Addr × ℕ
+window_of w = (record { 0 = w.base }, w.length)
+
+abbrev pub address_of : ℕ → Addr
+address_of n = record { 0 = n }
+
+-- each fill takes the next bytes
+abbrev pub fills_of : List FillIn → List ℕ → List Fill
+fills_of [] bytes = []
+fills_of (f ∷ fills) bytes = record { addr = address_of f.address; bytes = take f.length bytes } ∷ fills_of fills (drop f.length bytes)
+
+abbrev pub registers_in : RedistributorIn → GicrRegisters
+registers_in r = record { ctlr = r.ctlr; propbaser = r.propbaser; pendbaser = r.pendbaser }
+
+abbrev pub registers_of : List RedistributorIn → GicrValues
+registers_of redistributors = record { registers = map registers_in redistributors }
+
+abbrev pub tables_of : DescriptionIn → List ℕ → List RedistributorIn → LpiTables
+tables_of d pending redistributors =
+    if d.programmed == 0 then Described (address_of d.config) (map address_of pending)
+    else Registers (registers_of redistributors)
+
+abbrev pub values_of : DescriptionIn → RegValues
+values_of d = record { ctlr = d.ctlr; cbaser = d.cbaser; creadr = d.creadr; cwriter = d.cwriter; baser0 = d.baser0; baser1 = d.baser1 }
+
+abbrev pub restore_of : DescriptionIn → Option RegValues
+restore_of d = if d.restored == 0 then None else Some (values_of d)
+
+-- where the frames of the translator stand, if devices write by address
+abbrev pub frames_of : DescriptionIn → Option Addr
+frames_of d = if d.has_frames == 0 then None else Some (address_of d.frames)
+
+-- one translator
+abbrev pub translators_of : DescriptionIn → List Its
+translators_of d = record { restore = restore_of d; frames = frames_of d } ∷ []
+
+abbrev pub requesters_of : RequestersIn → Requesters
+requesters_of r = record { first = r.first; last = r.last; dev = record { 0 = r.device } }
+
+abbrev pub shape_of : DescriptionIn → Shape
+shape_of d = record { vcpus = d.vcpus; dev_bits = d.device_bits; lpi_bits = d.lpi_bits; profile = profile_of d.profile; linux = d.linux_guest == 1 }
+
+abbrev pub limits : Limits
+limits = record { stamp_last = 16777215; place_last = 1099511627775 }
+
+-- what the numbers stand for
+abbrev pub description_of : DescriptionIn → List WindowIn → List ℕ → List RedistributorIn → List RequestersIn → List FillIn → List ℕ → Desc
+description_of d windows pending redistributors requesters fills bytes = record {
+  shape = shape_of d;
+  shards = 1;
+  limits = limits;
+  windows = map window_of windows;
+  tables = tables_of d pending redistributors;
+  fills = fills_of fills bytes;
+  memory_limit = 18446744073709551615;
+  translators = translators_of d;
+  requesters = map requesters_of requesters;
+  from_kvm = d.restored == 2;
+  track = false;
+}

@@ -1,0 +1,3 @@
+pub mod PassBox
+pub mod Answered
+pub mod Reading

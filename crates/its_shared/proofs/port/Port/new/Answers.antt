@@ -1,0 +1,19 @@
+use Rattle.std.proofs.Common.{ap, sym, subst}
+use Rattle.device_port.specs.Routes.{AreDevices}
+use Rattle.its_plain.specs.declared.desc.Desc.{Desc}
+use Rattle.its_steps.specs.World.{View}
+use Rattle.its_turns.specs.Machines.{IsOf}
+use Rattle.its_turns.specs.declared.machine.Machine.{Machine}
+use Rattle.its_shared.proofs.port.Port.new.Goals as goal
+
+pub invariant_of-result : goal.invariant_of-result
+invariant_of-result c =
+    let e = c.in_ok-machine.ensures in
+    let same = sym c.in-Ok.ensures.ok in
+    record {
+      of = subst (λ (m : Machine). IsOf m c.in_ok-machine.pass) same e.of;
+      free = ap (λ (v : View). v.held) e.view;
+      devices = subst (λ (m : Machine). AreDevices m.desc.requesters) same
+          (subst (λ (d : Desc). AreDevices d.requesters) (sym e.desc)
+          (c.requesters_are_apart.ensures.devices c.args.desc.now e.start.base e.start.made_is));
+    }

@@ -1,0 +1,31 @@
+-- The outcome of making a machine that threads share.
+use Rattle.std.specs.Prelude.{◌≡◌, Option, Some, None, Result, Ok, Err}
+use Rattle.its_plain.specs.Described.{IsFirstState, IsRefused}
+use Rattle.its_plain.specs.declared.desc.Desc.{Desc}
+use Rattle.its_plain.specs.declared.make.MakeError.{MakeError}
+use Rattle.its_plain.specs.declared.make.MakeError.TheVariants as errors
+use Rattle.its_steps.specs.World.{first_view}
+use Rattle.its_turns.specs.Opening.{kept_of}
+use Rattle.its_shared.specs.Knowing.{Known}
+
+-- a description, with as many shards of the cache as a machine that threads share has
+abbrev pub shared : Desc → Desc
+shared d = record d { shards = 64 }
+
+-- the root of a machine that begins in the first state of the description: it has seen no call, and none was made
+pub record IsFirst (d : Desc) (k : Known) : Type 0 where
+  pub start : IsFirstState d k.view.setup.start
+  pub limits : k.view.setup.limits ≡ d.limits
+  pub shards : k.view.setup.shards ≡ d.shards
+  pub first : k.view ≡ first_view k.view.setup
+  pub desc : k.desc ≡ kept_of d
+
+-- or the first thing that is wrong with the description, unless memory ran out
+abbrev pub IsSharedFrom : Desc → Result Known MakeError → Type 0
+IsSharedFrom d (Ok k) = IsFirst d k
+IsSharedFrom d (Err (errors.Fault f)) = IsRefused d f
+IsSharedFrom d (Err errors.NoMemory) = Unit {0}
+
+abbrev pub IsShared : Desc → Option Known → Type 0
+IsShared d None = ⊥
+IsShared d (Some k) = IsFirst d k

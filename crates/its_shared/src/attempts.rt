@@ -1,0 +1,201 @@
+//! The calls of a pass, each turn that it needs tried once.
+ghost use Rattle.std.specs.Prelude.{◌≡◌};
+
+use crate::answer::{Answer, answered, answered_if, answered_tried};
+use crate::port::Port;
+use cmd_engine::{try_read_reg, try_step, try_write_reg};
+use device_port::{Dma, signal_once, try_dma};
+use dma_routes::route;
+use gicr_lpi::{try_read_gicr, try_write_gicr};
+use guest_port::{try_peek, try_poke};
+use its_migrate::try_save;
+use its_plain::{Ack, Bytes64, Reply, Route, SaveFault, Signal, StepReply};
+use its_types::{Addr, DeviceId, EventId, Intid, Open, Vcpu};
+use redist_ack::{try_best, try_claim, try_show, try_take};
+use std::alloc::Global;
+
+impl Port {
+    ghost use Rattle.std.specs.Prelude.{◌≡◌, true};
+    ghost use Rattle.device_port.specs.Dmas.{reply_of};
+    ghost use Rattle.its_plain.specs.Answer.{save_reply};
+    ghost use Rattle.its_plain.specs.Doorbells.{route_of};
+    ghost use Rattle.its_plain.specs.declared.call.Call.TheVariants as call;
+    ghost use Rattle.its_plain.specs.declared.call.Reply.TheVariants as reply;
+    ghost use Rattle.its_shared.specs.Answers.{Answers, HasCount};
+    ghost use Rattle.its_shared.specs.Asked as asked;
+    ghost use Rattle.its_shared.specs.Knowing as spec;
+
+    /// A device's message.
+    pub fn signal(&mut self, device: u32, event: u32) -> Answer<Signal>
+        ensures desc { self.new.desc ≡ self.old.desc }
+        ensures answer { Answers (asked.signal device event) reply.Signal
+            self.old.view self.new.view result }
+    {
+        answered(signal_once(
+            &self.machine,
+            &mut self.pass,
+            &Open,
+            DeviceId(device),
+            EventId(event),
+        ))
+    }
+
+    /// A virtual processor acknowledges its lowest LPI.
+    pub fn take(&mut self, vcpu: u16) -> Answer<Ack>
+        requires { spec.has_vcpu self.old vcpu ≡ true }
+        ensures desc { self.new.desc ≡ self.old.desc }
+        ensures answer { Answers (asked.take vcpu) reply.Ack
+            self.old.view self.new.view result }
+    {
+        answered(try_take(&self.machine, &mut self.pass, &Open, Vcpu(vcpu)))
+    }
+
+    /// The LPI that it would acknowledge.
+    pub fn show(&mut self, vcpu: u16) -> Answer<Ack>
+        requires { spec.has_vcpu self.old vcpu ≡ true }
+        ensures desc { self.new.desc ≡ self.old.desc }
+        ensures answer { Answers (asked.show vcpu) reply.Ack
+            self.old.view self.new.view result }
+    {
+        answered(try_show(&self.machine, &mut self.pass, &Open, Vcpu(vcpu)))
+    }
+
+    /// The LPI that comes first by priority below a mask.
+    pub fn best(&mut self, vcpu: u16, mask: u8) -> Answer<Ack>
+        requires { spec.has_vcpu self.old vcpu ≡ true }
+        ensures desc { self.new.desc ≡ self.old.desc }
+        ensures answer { Answers (asked.best vcpu mask) reply.Ack
+            self.old.view self.new.view result }
+    {
+        answered(try_best(&self.machine, &mut self.pass, &Open, Vcpu(vcpu), mask))
+    }
+
+    /// A virtual processor acknowledges this LPI.
+    pub fn claim(&mut self, vcpu: u16, intid: u32) -> Answer<Ack>
+        requires { spec.has_vcpu self.old vcpu ≡ true }
+        ensures desc { self.new.desc ≡ self.old.desc }
+        ensures answer { Answers (asked.claim vcpu intid) reply.Ack
+            self.old.view self.new.view result }
+    {
+        answered(try_claim(
+            &self.machine,
+            &mut self.pass,
+            &Open,
+            Vcpu(vcpu),
+            Intid(intid),
+        ))
+    }
+
+    /// A read of the translator's control frame.
+    pub fn read_register(&mut self, offset: u32, size: u8) -> Answer<u64>
+        ensures desc { self.new.desc ≡ self.old.desc }
+        ensures answer { Answers (asked.read_register offset size) reply.Value
+            self.old.view self.new.view result }
+    {
+        answered(try_read_reg(&self.machine, &mut self.pass, &Open, offset, size))
+    }
+
+    /// A write of the translator's control frame.
+    pub fn write_register(&mut self, offset: u32, size: u8, value: u64) -> Answer<()>
+        ensures desc { self.new.desc ≡ self.old.desc }
+        ensures answer { Answers (asked.write_register offset size value) (λ _. reply.Ok)
+            self.old.view self.new.view result }
+    {
+        answered_tried(try_write_reg(&self.machine, &mut self.pass, &Open, offset, size, value))
+    }
+
+    /// A read of the LPI registers of a redistributor.
+    pub fn read_lpi_register(&mut self, vcpu: u16, offset: u32, size: u8) -> Answer<u64>
+        requires { spec.has_vcpu self.old vcpu ≡ true }
+        ensures desc { self.new.desc ≡ self.old.desc }
+        ensures answer { Answers (asked.read_lpi_register vcpu offset size) reply.Value
+            self.old.view self.new.view result }
+    {
+        answered(try_read_gicr(
+            &self.machine,
+            &mut self.pass,
+            &Open,
+            Vcpu(vcpu),
+            offset,
+            size,
+        ))
+    }
+
+    /// A write of the LPI registers of a redistributor.
+    pub fn write_lpi_register(&mut self, vcpu: u16, offset: u32, size: u8, value: u64) -> Answer<()>
+        requires { spec.has_vcpu self.old vcpu ≡ true }
+        ensures desc { self.new.desc ≡ self.old.desc }
+        ensures answer { Answers (asked.write_lpi_register vcpu offset size value) (λ _. reply.Ok)
+            self.old.view self.new.view result }
+    {
+        answered_if(try_write_gicr(
+            &self.machine,
+            &mut self.pass,
+            &Open,
+            Vcpu(vcpu),
+            offset,
+            size,
+            value,
+        ))
+    }
+
+    /// The translator takes its next command.
+    pub fn step(&mut self) -> Answer<StepReply>
+        ensures desc { self.new.desc ≡ self.old.desc }
+        ensures answer { Answers asked.step reply.Step
+            self.old.view self.new.view result }
+    {
+        answered_tried(try_step(&self.machine, &mut self.pass, &Open))
+    }
+
+    /// A write of guest memory.
+    pub fn write_memory(&mut self, address: u64, bytes: Bytes64) -> Answer<Reply>
+        ensures desc { self.new.desc ≡ self.old.desc }
+        ensures answer { Answers (asked.write_memory address bytes) (λ r. r)
+            self.old.view self.new.view result }
+    {
+        answered_if(try_poke(&self.machine, &mut self.pass, &Open, Addr(address), &bytes))
+    }
+
+    /// A read of guest memory.
+    pub fn read_memory(&mut self, address: u64, count: u8) -> Answer<Reply>
+        ensures desc { self.new.desc ≡ self.old.desc }
+        ensures answer { Answers (asked.read_memory address count) (λ r. r)
+            self.old.view self.new.view result }
+        ensures count { HasCount count result }
+    {
+        answered(try_peek(&self.machine, &mut self.pass, &Open, Addr(address), count))
+    }
+
+    /// The tables are written to guest memory.
+    pub fn save(&mut self, alloc: Global) -> Answer<Result<(), SaveFault>>
+        ensures desc { self.new.desc ≡ self.old.desc }
+        ensures answer { Answers call.Save save_reply
+            self.old.view self.new.view result }
+    {
+        answered_if(try_save(alloc, &self.machine, &mut self.pass, &Open))
+    }
+
+    /// A requester's write at an address.
+    pub fn dma(&mut self, req: u32, address: u64, bytes: Bytes64) -> Answer<Dma>
+        ensures desc { self.new.desc ≡ self.old.desc }
+        ensures answer { Answers (asked.dma self.old req address bytes)
+            reply_of self.old.view self.new.view result }
+    {
+        answered_if(try_dma(
+            &self.machine,
+            &mut self.pass,
+            &Open,
+            req,
+            Addr(address),
+            &bytes,
+        ))
+    }
+
+    /// What such a write is by the description.
+    pub fn route(&self, req: u32, address: u64, bytes: &Bytes64) -> Route
+        ensures { result ≡ route_of self.now.desc req address bytes.now }
+    {
+        route(self.machine.desc(), req, Addr(address), bytes)
+    }
+}

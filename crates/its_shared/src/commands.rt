@@ -1,0 +1,70 @@
+//! Commands, saves, and guest memory.
+ghost use Rattle.std.specs.Prelude.{◌≡◌, false, true, length};
+ghost use Rattle.its_numbers.specs.Codes as codes;
+ghost use Rattle.its_plain.specs.Answer.{save_reply};
+ghost use Rattle.its_plain.specs.declared.call.Call.TheVariants as call;
+ghost use Rattle.its_plain.specs.declared.call.Reply.TheVariants as reply;
+ghost use Rattle.its_shared.specs.Asked as asked;
+ghost use Rattle.its_shared.specs.Asked.{is_count};
+ghost use Rattle.its_shared.specs.Telling.{Tells, as_told, bytes_told, is_done, read_code};
+ghost use Rattle.its_shared.specs.Telling.{nothing_told, save_code};
+ghost use Rattle.its_shared.specs.Telling.{save_told, step_told, write_code};
+
+use crate::port::Port;
+use crate::telling::{tell_bytes, tell_save, tell_step, tell_write};
+use its_numbers::{RANGE, SaveFaultOut, StepOut};
+use its_plain::Bytes64;
+use std::alloc::Global;
+
+/// The translator takes its next command (IHI 0069, section 5.3).
+pub fn step(port: &mut Port, place: &mut u64, out: &mut StepOut) -> u32
+    ensures desc { port.new.desc ≡ port.old.desc }
+    ensures told { Tells is_done (as_told step_told) asked.step reply.Step
+        port.old port.new result place.old place.new out.old out.new }
+{
+    let answer = port.step();
+    tell_step(answer, place, out)
+}
+
+/// The tables are written to guest memory (KVM document arm-vgic-its).
+pub fn save(port: &mut Port, alloc: Global, place: &mut u64, out: &mut SaveFaultOut) -> u32
+    ensures desc { port.new.desc ≡ port.old.desc }
+    ensures told { Tells save_code save_told call.Save save_reply
+        port.old port.new result place.old place.new out.old out.new }
+{
+    let answer = port.save(alloc);
+    tell_save(answer, place, out)
+}
+
+/// A write of 1 to 64 bytes of guest memory.
+pub fn write_memory(port: &mut Port, address: u64, bytes: &[u8], place: &mut u64) -> u32
+    ensures desc { port.new.desc ≡ port.old.desc }
+    ensures range { is_count bytes.now ≡ false → (result ≡ codes.range)
+        × (port.new ≡ port.old) × (place.new ≡ place.old) }
+    ensures told { is_count bytes.now ≡ true → Tells write_code nothing_told (asked.write_memory
+        address bytes.now) (λ r. r)
+        port.old port.new result place.old place.new tt tt }
+{
+    if bytes.is_empty() || bytes.len() > 64 {
+        return RANGE;
+    }
+    let bytes = Bytes64::new(bytes);
+    let answer = port.write_memory(address, bytes);
+    tell_write(answer, place)
+}
+
+/// A read of 1 to 64 bytes of guest memory.
+pub fn read_memory(port: &mut Port, address: u64, buffer: &mut [u8], place: &mut u64) -> u32
+    ensures desc { port.new.desc ≡ port.old.desc }
+    ensures range { is_count buffer.old ≡ false → (result ≡ codes.range)
+        × (port.new ≡ port.old) × (place.new ≡ place.old) × (buffer.new ≡ buffer.old) }
+    ensures told { is_count buffer.old ≡ true → Tells read_code bytes_told
+        (asked.read_memory address (length buffer.old)) (λ r. r) port.old port.new result
+        place.old place.new buffer.old buffer.new }
+{
+    if buffer.is_empty() || buffer.len() > 64 {
+        return RANGE;
+    }
+    let answer = port.read_memory(address, buffer.len() as u8);
+    tell_bytes(answer, place, buffer)
+}

@@ -1,0 +1,157 @@
+//! A shared machine's making, its passes, and its end.
+ghost use Rattle.std.specs.Prelude.{◌≡◌, ◌≢◌, ◌<◌, ◌≤◌, ◌^◌, false, true, None, Some, Err};
+ghost use Rattle.std.specs.Prelude.{IfOk, IfErr, is_none, is_some, length};
+ghost use Rattle.its_numbers.specs.Codes as codes;
+ghost use Rattle.its_numbers.specs.Descriptions.{is_in_range as in_range, description_of};
+ghost use Rattle.its_numbers.specs.Unmade.{IsUnmade};
+ghost use Rattle.its_shared.specs.Knowing.{Known, can_split};
+ghost use Rattle.its_plain.specs.Machine.{IsDescription};
+ghost use Rattle.its_shared.specs.Making.{IsShared, IsSharedFrom, shared};
+ghost use Rattle.its_shared.specs.Ports.{Splits};
+ghost use Rattle.its_shared.specs.Telling.{InPass};
+
+use crate::pass::Pass;
+use crate::port::Port;
+use its_numbers::{
+    DONE, DescriptionIn, FAULT, FillIn, HANDLE, MakeFaultOut, NO_MEMORY, RANGE, RedistributorIn,
+    RequestersIn, WindowIn, description, is_in_range, make_fault_out,
+};
+use its_plain::{Desc, MakeError};
+use std::alloc::Global;
+use std::mem::replace;
+
+/// A machine for threads to share, as numbers describe it, restored from guest memory where they
+/// say so. The handle, which has no pass before, gets its root.
+#[unsafe(no_mangle)]
+pub extern "C" fn its_share(
+    root: &mut Pass,
+    alloc: Global,
+    numbers: &DescriptionIn,
+    windows: &[WindowIn],
+    pending: &[u64],
+    redistributors: &[RedistributorIn],
+    requesters: &[RequestersIn],
+    fills: &[FillIn],
+    bytes: &[u8],
+    fault: &mut MakeFaultOut,
+) -> u32
+    ensures in_use { is_none root.old.known ≡ false → result ≡ codes.handle }
+    ensures only_in_use { result ≡ codes.handle → is_none root.old.known ≡ false }
+    ensures range { root.old.known ≡ None
+        → in_range numbers.now (length pending.now) (length redistributors.now) fills.now
+        (length bytes.now) ≡ false
+        → result ≡ codes.range }
+    ensures only_range { result ≡ codes.range
+        → in_range numbers.now (length pending.now) (length redistributors.now) fills.now
+        (length bytes.now) ≡ false }
+    ensures done { result ≡ codes.done
+        → IsShared (shared (description_of numbers.now windows.now pending.now redistributors.now
+        requesters.now fills.now bytes.now)) root.new.known }
+    ensures same { result ≢ codes.done → root.new ≡ root.old }
+    ensures unmade { IsUnmade result
+        (shared (description_of numbers.now windows.now pending.now redistributors.now
+        requesters.now fills.now bytes.now)) fault.old fault.new }
+{
+    if !root.is_empty() {
+        return HANDLE;
+    }
+    if !is_in_range(
+        numbers,
+        pending.len(),
+        redistributors.len(),
+        fills,
+        bytes.len(),
+    ) {
+        return RANGE;
+    }
+    let Ok(mut desc) = description(
+        alloc,
+        numbers,
+        windows,
+        pending,
+        redistributors,
+        requesters,
+        fills,
+        bytes,
+    ) else {
+        return NO_MEMORY;
+    };
+    desc.shards = 64;
+    match made(alloc, &desc) {
+        Ok(made) => {
+            *root = made;
+            DONE
+        }
+        Err(MakeError::NoMemory) => NO_MEMORY,
+        Err(MakeError::Fault(found)) => {
+            *fault = make_fault_out(found);
+            FAULT
+        }
+    }
+}
+
+// The handle of a root on the heap.
+fn made(alloc: Global, desc: &Desc) -> Result<Pass, MakeError>
+    requires description { IsDescription desc.now }
+    requires some_shards { 1 ≤ desc.now.shards }
+    requires most_shards { desc.now.shards ≤ 64 }
+    requires stamps { desc.now.limits.stamp_last < 2 ^ 24 }
+    requires one { length desc.now.translators ≡ 1 }
+    requires places { desc.now.limits.place_last < 2 ^ 40 }
+    ensures made { IfOk result (λ p. IsShared desc.now p.known) }
+    ensures refused { IfErr result (λ e. IsSharedFrom desc.now (Err e)) }
+{
+    let port = Port::new(alloc, desc)?;
+    Ok(Pass::of(Box::new(alloc, port)?))
+}
+
+/// Another pass of the root's machine, which has seen what the root has. The handle has none
+/// before.
+#[unsafe(no_mangle)]
+pub extern "C" fn its_split(root: &mut Pass, alloc: Global, pass: &mut Pass) -> u32
+    ensures empty { root.old.known ≡ None → result ≡ codes.handle }
+    ensures in_use { is_none pass.old.known ≡ false → result ≡ codes.handle }
+    ensures range { (k : Known) → root.old.known ≡ Some k → pass.old.known ≡ None
+        → can_split k ≡ false → result ≡ codes.range }
+    ensures only_range { (k : Known) → root.old.known ≡ Some k → can_split k ≡ true
+        → result ≢ codes.range }
+    ensures kept { is_some root.new.known ≡ is_some root.old.known }
+    ensures made { result ≡ codes.done → is_some pass.new.known ≡ true }
+    ensures done { InPass root.old root.new (λ k l. (p : Known) → result ≡ codes.done
+        → pass.new.known ≡ Some p → Splits k l p) }
+    ensures same { result ≢ codes.done → pass.new ≡ pass.old }
+    ensures codes { result ≤ codes.handle }
+{
+    if root.is_empty() || !pass.is_empty() {
+        return HANDLE;
+    }
+    let port = root.lent();
+    if !port.can_split() {
+        return RANGE;
+    }
+    let Some(other) = port.split() else {
+        return NO_MEMORY;
+    };
+    match Box::new(alloc, other) {
+        Ok(other) => {
+            *pass = Pass::of(other);
+            DONE
+        }
+        Err(_) => NO_MEMORY,
+    }
+}
+
+/// A pass's end. The handle has none then. The machine goes with its last pass.
+#[unsafe(no_mangle)]
+pub extern "C" fn its_pass_free(pass: &mut Pass, alloc: Global) -> u32
+    ensures empty { pass.old.known ≡ None → result ≡ codes.handle }
+    ensures freed { is_none pass.old.known ≡ false → result ≡ codes.done }
+    ensures gone { pass.new.known ≡ None }
+{
+    if pass.is_empty() {
+        return HANDLE;
+    }
+    let ended = replace(pass, Pass::empty(alloc));
+    drop(ended.into_box());
+    DONE
+}

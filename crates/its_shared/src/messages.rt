@@ -1,0 +1,51 @@
+//! Messages of devices (IHI 0069, section 5.2).
+ghost use Rattle.std.specs.Prelude.{◌≡◌, false, true};
+ghost use Rattle.device_port.specs.Dmas.{reply_of};
+ghost use Rattle.its_numbers.specs.Codes as codes;
+ghost use Rattle.its_numbers.specs.Replies.{signal_out};
+ghost use Rattle.its_plain.specs.Doorbells.{route_of};
+ghost use Rattle.its_plain.specs.declared.call.Reply.TheVariants as reply;
+ghost use Rattle.its_shared.specs.Asked as asked;
+ghost use Rattle.its_shared.specs.Asked.{is_count};
+ghost use Rattle.its_shared.specs.Telling.{Tells, as_told, dma_told, is_done};
+
+use crate::port::Port;
+use crate::telling::{tell_dma, tell_signal};
+use its_numbers::{DmaOut, RANGE, SignalOut};
+use its_plain::Bytes64;
+
+/// A device's message.
+pub fn signal(port: &mut Port, device: u32, event: u32, place: &mut u64, out: &mut SignalOut) -> u32
+    ensures desc { port.new.desc ≡ port.old.desc }
+    ensures told { Tells is_done (as_told signal_out) (asked.signal device event) reply.Signal
+        port.old port.new result place.old place.new out.old out.new }
+{
+    let answer = port.signal(device, event);
+    tell_signal(answer, place, out)
+}
+
+/// A requester's write of bytes at an address: a message, a write of guest memory, or nothing.
+pub fn dma(
+    port: &mut Port,
+    requester: u32,
+    address: u64,
+    bytes: &[u8],
+    place: &mut u64,
+    out: &mut DmaOut,
+) -> u32
+    ensures desc { port.new.desc ≡ port.old.desc }
+    ensures range { is_count bytes.now ≡ false → (result ≡ codes.range)
+        × (port.new ≡ port.old) × (place.new ≡ place.old) × (out.new ≡ out.old) }
+    ensures told { is_count bytes.now ≡ true → Tells is_done (as_told (dma_told (route_of
+        port.old.desc requester address bytes.now))) (asked.dma port.old requester address
+        bytes.now) reply_of
+        port.old port.new result place.old place.new out.old out.new }
+{
+    if bytes.is_empty() || bytes.len() > 64 {
+        return RANGE;
+    }
+    let bytes = Bytes64::new(bytes);
+    let route = port.route(requester, address, &bytes);
+    let answer = port.dma(requester, address, bytes);
+    tell_dma(answer, route, place, out)
+}

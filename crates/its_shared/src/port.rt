@@ -1,0 +1,90 @@
+//! A pass with its share of the machine that it is of.
+ghost use Rattle.std.specs.Prelude.{◌≡◌};
+
+use device_port::requesters_are_apart;
+use its_migrate::share;
+use its_plain::{Desc, MakeError};
+use its_turns::{Machine, Pass};
+use std::alloc::Global;
+use std::marker::Model;
+use std::sync::Arc;
+
+/// A pass, and the machine that it is of, which goes with its last pass. Contracts see what it
+/// knows.
+#[derive(Drop)]
+pub struct Port {
+    pub(crate) machine: Arc<Machine, Global>,
+    pub(crate) pass: Pass,
+}
+
+impl Model for Port {
+    ghost use Rattle.std.specs.Coded.{codes};
+    ghost use Rattle.its_plain.specs.Plain.{plain_code, translator_code};
+    ghost use Rattle.gicr_regs.specs.Redistributors.{conf_code, pend_code};
+    ghost use Rattle.its_shared.specs.Knowing.{Known};
+
+    ghost Value = { Known };
+
+    ghost coded = { Prim.hlevel (codes, plain_code, translator_code, conf_code, pend_code) };
+
+    ghost use Rattle.its_shared.specs.Ports.{known_by, IsPort};
+
+    ghost view = { known_by };
+
+    ghost invariant = { IsPort };
+}
+
+impl Port {
+    ghost use Rattle.std.specs.Prelude.{◌≡◌, ◌<◌, ◌≤◌, ◌^◌, true, length, MatchOption};
+    ghost use Rattle.its_plain.specs.Machine.{IsDescription};
+    ghost use Rattle.its_types.specs.Ranges.{most_vcpus};
+    ghost use Rattle.its_shared.specs.Knowing as spec;
+    ghost use Rattle.its_shared.specs.Making.{IsSharedFrom};
+    ghost use Rattle.its_shared.specs.Ports.{Splits};
+
+    /// The root of a new machine.
+    pub fn new(alloc: Global, desc: &Desc) -> Result<Port, MakeError>
+        requires description { IsDescription desc.now }
+        requires some_shards { 1 ≤ desc.now.shards }
+        requires most_shards { desc.now.shards ≤ 64 }
+        requires stamps { desc.now.limits.stamp_last < 2 ^ 24 }
+        requires one { length desc.now.translators ≡ 1 }
+        requires places { desc.now.limits.place_last < 2 ^ 40 }
+        ensures { IsSharedFrom desc.now result }
+    {
+        requesters_are_apart();
+        let (machine, pass) = share(alloc, desc)?;
+        match Arc::new(alloc, machine) {
+            Ok(machine) => Ok(Port { machine, pass }),
+            Err(_) => Err(MakeError::NoMemory),
+        }
+    }
+
+    /// Whether passes can be split off: it is the root, and there are numbers left.
+    pub fn can_split(&self) -> bool
+        ensures { result ≡ spec.can_split self.now }
+    {
+        self.pass.number() == 0 && self.pass.made() < 1 << 32
+    }
+
+    /// Another pass of the machine, split off the root. None where the machine has as many as an
+    /// `Arc` can count.
+    pub fn split(&mut self) -> Option<Port>
+        requires { spec.can_split self.old ≡ true }
+        ensures { MatchOption result (self.new ≡ self.old) (λ p. Splits self.old self.new p) }
+    {
+        let Ok(machine) = Arc::try_clone(&self.machine) else {
+            return None;
+        };
+        let pass = self.pass.split(&machine);
+        Some(Port { machine, pass })
+    }
+
+    /// Whether there is a virtual processor of this number.
+    pub fn has_vcpu(&self, vcpu: u32) -> bool
+        ensures has { result ≡ spec.has_vcpu self.now vcpu }
+        ensures few { result ≡ true → vcpu < most_vcpus }
+    {
+        vcpu < u32::from(self.machine.vcpus())
+    }
+}

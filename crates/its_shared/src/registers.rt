@@ -1,0 +1,95 @@
+//! Registers: those of the translator, and the LPI registers of redistributors.
+ghost use Rattle.std.specs.Prelude.{◌≡◌, false, true};
+ghost use Rattle.its_numbers.specs.Codes as codes;
+ghost use Rattle.its_plain.specs.declared.call.Reply.TheVariants as reply;
+ghost use Rattle.its_shared.specs.Asked as asked;
+ghost use Rattle.its_shared.specs.Asked.{has_register};
+ghost use Rattle.its_shared.specs.Telling.{Tells, is_done, nothing_told, ok, value_told};
+
+use crate::port::Port;
+use crate::telling::{tell_unit, tell_value};
+use its_numbers::RANGE;
+
+/// A read of 4 or 8 bytes of the translator's control frame (IHI 0069, section 12.19).
+pub fn read_register(port: &mut Port, offset: u32, size: u32, place: &mut u64, out: &mut u64) -> u32
+    ensures desc { port.new.desc ≡ port.old.desc }
+    ensures range { asked.is_size size ≡ false → (result ≡ codes.range)
+        × (port.new ≡ port.old) × (place.new ≡ place.old) × (out.new ≡ out.old) }
+    ensures told { asked.is_size size ≡ true → Tells is_done value_told (asked.read_register offset
+        size) reply.Value
+        port.old port.new result place.old place.new out.old out.new }
+{
+    if !is_size(size) {
+        return RANGE;
+    }
+    let answer = port.read_register(offset, size as u8);
+    tell_value(answer, place, out)
+}
+
+/// A write of 4 or 8 bytes of the translator's control frame.
+pub fn write_register(port: &mut Port, offset: u32, size: u32, value: u64, place: &mut u64) -> u32
+    ensures desc { port.new.desc ≡ port.old.desc }
+    ensures range { asked.is_size size ≡ false → (result ≡ codes.range)
+        × (port.new ≡ port.old) × (place.new ≡ place.old) }
+    ensures told { asked.is_size size ≡ true → Tells is_done nothing_told (asked.write_register
+        offset size value) ok
+        port.old port.new result place.old place.new tt tt }
+{
+    if !is_size(size) {
+        return RANGE;
+    }
+    let answer = port.write_register(offset, size as u8, value);
+    tell_unit(answer, place)
+}
+
+/// A read of 4 or 8 bytes of the LPI registers of a redistributor (IHI 0069, section 12.11).
+pub fn read_lpi_register(
+    port: &mut Port,
+    vcpu: u32,
+    offset: u32,
+    size: u32,
+    place: &mut u64,
+    out: &mut u64,
+) -> u32
+    ensures desc { port.new.desc ≡ port.old.desc }
+    ensures range { has_register port.old vcpu size ≡ false → (result ≡ codes.range)
+        × (port.new ≡ port.old) × (place.new ≡ place.old) × (out.new ≡ out.old) }
+    ensures told { has_register port.old vcpu size ≡ true → Tells is_done value_told
+        (asked.read_lpi_register vcpu offset size) reply.Value
+        port.old port.new result place.old place.new out.old out.new }
+{
+    if !(port.has_vcpu(vcpu) && is_size(size)) {
+        return RANGE;
+    }
+    let answer = port.read_lpi_register(vcpu as u16, offset, size as u8);
+    tell_value(answer, place, out)
+}
+
+/// A write of 4 or 8 bytes of the LPI registers of a redistributor.
+pub fn write_lpi_register(
+    port: &mut Port,
+    vcpu: u32,
+    offset: u32,
+    size: u32,
+    value: u64,
+    place: &mut u64,
+) -> u32
+    ensures desc { port.new.desc ≡ port.old.desc }
+    ensures range { has_register port.old vcpu size ≡ false → (result ≡ codes.range)
+        × (port.new ≡ port.old) × (place.new ≡ place.old) }
+    ensures told { has_register port.old vcpu size ≡ true → Tells is_done nothing_told
+        (asked.write_lpi_register vcpu offset size value) ok
+        port.old port.new result place.old place.new tt tt }
+{
+    if !(port.has_vcpu(vcpu) && is_size(size)) {
+        return RANGE;
+    }
+    let answer = port.write_lpi_register(vcpu as u16, offset, size as u8, value);
+    tell_unit(answer, place)
+}
+
+fn is_size(size: u32) -> bool
+    ensures { result ≡ asked.is_size size }
+{
+    size == 4 || size == 8
+}

@@ -1,0 +1,433 @@
+/*
+ * A monitor whose threads call one machine at once: two device threads signal and write data beside, a
+ * thread for each of four virtual processors acknowledges, one puts commands into the queue and steps, and
+ * the tables are saved while they run. Each reply is written down with its place, and all are printed in
+ * the order of their places, behind a script of the same calls: what `its check` reads.
+ *
+ * usage: threads [SIGNALS]   how many signals each device makes; 500 without it
+ */
+#include "its_wait.h"
+
+#include <inttypes.h>
+#include <pthread.h>
+#include <stdarg.h>
+#include <stdatomic.h>
+#include <stdio.h>
+#include <stdlib.h>
+#include <string.h>
+
+#define VCPUS 4
+#define DEVICES 2
+#define EVENTS 16
+#define THREADS (DEVICES + VCPUS + 2)
+#define LPIS (DEVICES * EVENTS)
+#define CALLS 60000
+#define QUEUE 0x80020000u
+#define CONFIG 0x80030000u
+#define ITTS 0x800c0000u
+#define DATA 0x80100000u
+#define QUEUE_BYTES 0x1000u
+
+/* A call that was made, of the thread that has it. */
+struct call {
+    uint64_t place;
+    char asked[96];
+    char replied[32];
+};
+
+/* A thread with its pass, and its calls in their order. Thread 1 of the first phase is the root. */
+struct caller {
+    struct its_pass pass;
+    uint32_t phase;
+    uint32_t number;
+    uint32_t count;
+    uint64_t busy;
+    struct call *calls;
+};
+
+static atomic_uint devices_left = DEVICES;
+static uint32_t signals = 500;
+
+static void fail(const char *what, uint32_t code)
+{
+    fprintf(stderr, "%s answered %" PRIu32 "\n", what, code);
+    exit(1);
+}
+
+/* Whether a call is to be made again: after ITS_BUSY, when it has been waited. */
+static int again(struct caller *caller, uint32_t code, uint32_t *round)
+{
+    if (code != ITS_BUSY)
+        return 0;
+    caller->busy++;
+    if (!its_wait((*round)++, ITS_YIELDS + 10000))
+        fail("a call that waited for ten seconds", code);
+    return 1;
+}
+
+/* Writes a call down that was made. */
+static void note(struct caller *caller, uint64_t place, const char *replied, const char *asked, ...)
+{
+    struct call *call;
+    va_list list;
+
+    if (caller->count == CALLS)
+        fail("too many calls: the last one", 0);
+    call = &caller->calls[caller->count++];
+    call->place = place;
+    snprintf(call->replied, sizeof call->replied, "%s", replied);
+    va_start(list, asked);
+    vsnprintf(call->asked, sizeof call->asked, asked, list);
+    va_end(list);
+}
+
+static void write_bytes(struct caller *caller, uint64_t address, const uint8_t *bytes, size_t length)
+{
+    uint64_t place = 0;
+    uint32_t code, round = 0;
+    char hex[2 * 64 + 1];
+    size_t i;
+
+    do
+        code = its_pass_write_memory(&caller->pass, address, bytes, length, &place);
+    while (again(caller, code, &round));
+    if (code != ITS_DONE && code != ITS_OUTSIDE)
+        fail("its_pass_write_memory", code);
+    for (i = 0; i < length; i++)
+        snprintf(hex + 2 * i, 3, "%02x", bytes[i]);
+    note(caller, place, code == ITS_DONE ? "ok" : "outside", "poke 0x%" PRIx64 " %s", address, hex);
+}
+
+static void write_register(struct caller *caller, uint32_t offset, uint32_t size, uint64_t value)
+{
+    uint64_t place = 0;
+    uint32_t code, round = 0;
+
+    do
+        code = its_pass_write_register(&caller->pass, offset, size, value, &place);
+    while (again(caller, code, &round));
+    if (code != ITS_DONE)
+        fail("its_pass_write_register", code);
+    note(caller, place, "ok", "write 0x%" PRIx32 " %" PRIu32 " 0x%" PRIx64, offset, size, value);
+}
+
+static void signal_event(struct caller *caller, uint32_t device, uint32_t event)
+{
+    static const char *const causes[] = {"", "disabled", "no-device", "no-event", "no-collection", "lpis-off"};
+    struct its_signal_out out;
+    uint64_t place = 0;
+    uint32_t code, round = 0;
+    char replied[32];
+
+    do
+        code = its_pass_signal(&caller->pass, device, event, &place, &out);
+    while (again(caller, code, &round));
+    if (code != ITS_DONE)
+        fail("its_pass_signal", code);
+    if (out.cause == ITS_CAUSE_DELIVERED)
+        snprintf(replied, sizeof replied, "delivered %" PRIu32 " %" PRIu32, out.vcpu, out.intid);
+    else
+        snprintf(replied, sizeof replied, "dropped %s", causes[out.cause]);
+    note(caller, place, replied, "signal %" PRIu32 " %" PRIu32, device, event);
+}
+
+/* Whether there was an LPI. */
+static int take(struct caller *caller, uint32_t vcpu)
+{
+    struct its_ack_out out;
+    uint64_t place = 0;
+    uint32_t code, round = 0;
+    char replied[32] = "none";
+
+    do
+        code = its_pass_take(&caller->pass, vcpu, &place, &out);
+    while (again(caller, code, &round));
+    if (code != ITS_DONE)
+        fail("its_pass_take", code);
+    if (out.intid != 0)
+        snprintf(replied, sizeof replied, "lpi %" PRIu32 " 0x%" PRIx32, out.intid, out.priority);
+    note(caller, place, replied, "take %" PRIu32, vcpu);
+    return out.intid != 0;
+}
+
+static void step(struct caller *caller)
+{
+    static const char *const ops[16] = {
+        "0x0", "movi", "0x2", "int", "clear", "sync", "0x6", "0x7",
+        "mapd", "mapc", "mapti", "mapi", "inv", "invall", "movall", "discard"};
+    struct its_step_out out;
+    uint64_t place = 0;
+    uint32_t code, round = 0;
+    char replied[32];
+
+    do
+        code = its_pass_step(&caller->pass, &place, &out);
+    while (again(caller, code, &round));
+    if (code != ITS_DONE)
+        fail("its_pass_step", code);
+    if (out.outcome != ITS_OUTCOME_RAN || out.op >= 16)
+        fail("a step that ran no command", out.outcome);
+    snprintf(replied, sizeof replied, "ran %s", ops[out.op]);
+    note(caller, place, replied, "step");
+}
+
+static void save(struct caller *caller)
+{
+    struct its_save_fault_out fault;
+    uint64_t place = 0;
+    uint32_t code, round = 0;
+
+    do
+        code = its_pass_save(&caller->pass, &place, &fault);
+    while (again(caller, code, &round));
+    if (code != ITS_DONE)
+        fail("its_pass_save", code);
+    note(caller, place, "saved", "save");
+}
+
+/* Puts a command into the queue at an offset, and takes it. The offset after it. */
+static uint32_t command(struct caller *caller, uint32_t at, uint64_t dw0, uint64_t dw1, uint64_t dw2)
+{
+    uint64_t words[4] = {dw0, dw1, dw2, 0};
+    uint8_t bytes[32];
+    uint32_t i;
+
+    for (i = 0; i < 32; i++)
+        bytes[i] = (uint8_t)(words[i / 8] >> 8 * (i % 8));
+    write_bytes(caller, QUEUE + at, bytes, sizeof bytes);
+    at = (at + 32) % QUEUE_BYTES;
+    write_register(caller, 0x88, 8, at);
+    step(caller);
+    return at;
+}
+
+/* Devices 16 and 17 with their events, of which each leads to one of four collections. */
+static uint32_t drive(struct caller *root)
+{
+    uint32_t at = 0, device, event, vcpu;
+
+    write_register(root, 0x100, 8, UINT64_C(0x8107000080000200));
+    write_register(root, 0x108, 8, UINT64_C(0x8407000080010200));
+    write_register(root, 0x80, 8, UINT64_C(0x8000000000000000) | QUEUE);
+    write_register(root, 0x0, 4, 1);
+    for (vcpu = 0; vcpu < VCPUS; vcpu++)
+        at = command(root, at, 9, 0, UINT64_C(0x8000000000000000) | (uint64_t)vcpu << 16 | vcpu);
+    for (device = 0; device < DEVICES; device++) {
+        at = command(root, at, (uint64_t)(16 + device) << 32 | 8, 3, UINT64_C(0x8000000000000000) | (ITTS + 256 * device));
+        for (event = 0; event < EVENTS; event++)
+            at = command(root, at, (uint64_t)(16 + device) << 32 | 10,
+                         (uint64_t)(8192 + EVENTS * device + event) << 32 | event, event % VCPUS);
+    }
+    return at;
+}
+
+static void *device_thread(void *argument)
+{
+    struct caller *caller = argument;
+    uint32_t device = caller->number - 1, i, j;
+    uint8_t data[8];
+
+    for (i = 0; i < signals; i++) {
+        if (i % 8 == 0) {
+            for (j = 0; j < sizeof data; j++)
+                data[j] = (uint8_t)(i + j);
+            write_bytes(caller, DATA + 4096 * device + i % 512, data, sizeof data);
+        }
+        signal_event(caller, 16 + device, i % EVENTS);
+    }
+    atomic_fetch_sub(&devices_left, 1);
+    return NULL;
+}
+
+static void *vcpu_thread(void *argument)
+{
+    struct caller *caller = argument;
+    uint32_t vcpu = caller->number - 1 - DEVICES;
+    unsigned last = DEVICES;
+
+    for (;;) {
+        unsigned left = atomic_load(&devices_left);
+        if (!take(caller, vcpu)) {
+            if (left == 0 && last == 0)
+                return NULL;
+            if (caller->count > CALLS - 1000)
+                return NULL;
+            (void)poll(NULL, 0, 1);
+        }
+        last = left;
+    }
+}
+
+static uint32_t queue_at;
+
+/* Events move from collection to collection, and configurations are read again. */
+static void *command_thread(void *argument)
+{
+    struct caller *caller = argument;
+    uint32_t i;
+
+    for (i = 0; atomic_load(&devices_left) != 0 && caller->count < CALLS - 1000; i++) {
+        uint64_t device = 16 + i % DEVICES, event = i / DEVICES % EVENTS;
+        if (i % 3 == 0)
+            queue_at = command(caller, queue_at, device << 32 | 12, event, 0);
+        else
+            queue_at = command(caller, queue_at, device << 32 | 1, event, (event + i) % VCPUS);
+        (void)sched_yield();
+    }
+    return NULL;
+}
+
+static void *saving_thread(void *argument)
+{
+    struct caller *caller = argument;
+
+    while (atomic_load(&devices_left) != 0) {
+        save(caller);
+        (void)poll(NULL, 0, 2);
+    }
+    return NULL;
+}
+
+static struct caller caller_of(uint32_t phase, uint32_t number)
+{
+    struct caller caller = {ITS_NO_PASS, phase, number, 0, 0, NULL};
+
+    caller.calls = calloc(CALLS, sizeof *caller.calls);
+    if (caller.calls == NULL)
+        fail("calloc", 0);
+    return caller;
+}
+
+static void print_thread(const struct caller *caller, uint32_t from, uint32_t to)
+{
+    uint32_t i;
+
+    printf("thread\n");
+    for (i = from; i < to; i++)
+        printf("%s\n", caller->calls[i].asked);
+}
+
+struct line {
+    const struct caller *caller;
+    const struct call *call;
+    uint32_t phase;
+};
+
+static int by_place(const void *a, const void *b)
+{
+    const struct line *x = a, *y = b;
+
+    return (x->call->place > y->call->place) - (x->call->place < y->call->place);
+}
+
+/* The description, as its_share was given it. */
+static void print_description(void)
+{
+    uint32_t vcpu, lpi;
+
+    printf("vcpus %d\nshards 64\nwindow 0x80000000 0x200000\nconfig 0x%x\n", VCPUS, CONFIG);
+    for (vcpu = 0; vcpu < VCPUS; vcpu++)
+        printf("pending %" PRIu32 " 0x%x\n", vcpu, 0x80040000u + 0x10000u * vcpu);
+    printf("bytes 0x%x ", CONFIG);
+    for (lpi = 0; lpi < LPIS; lpi++)
+        printf("a1");
+    printf("\n");
+}
+
+/* Of the root the calls before `driven` are the first phase, those after it the last. */
+static void print_all(const struct caller *root, uint32_t driven, const struct caller *callers)
+{
+    struct line *lines = calloc((size_t)(THREADS + 1) * CALLS, sizeof *lines);
+    size_t count = 0, i;
+    uint32_t k, n, vcpu;
+
+    if (lines == NULL)
+        fail("calloc", 0);
+    print_description();
+    printf("phase\n");
+    print_thread(root, 0, driven);
+    printf("phase\n");
+    for (k = 0; k < THREADS; k++)
+        print_thread(&callers[k], 0, callers[k].count);
+    printf("phase\n");
+    print_thread(root, driven, root->count);
+    printf("end\ntrace\nleg 1\n");
+    for (n = 0; n < root->count; n++)
+        lines[count++] = (struct line){root, &root->calls[n], n < driven ? 1 : 3};
+    for (k = 0; k < THREADS; k++)
+        for (n = 0; n < callers[k].count; n++)
+            lines[count++] = (struct line){&callers[k], &callers[k].calls[n], 2};
+    qsort(lines, count, sizeof *lines, by_place);
+    for (i = 0; i < count; i++)
+        printf("%" PRIu64 " %" PRIu32 ".%" PRIu32 " %s -> %s\n", lines[i].call->place, lines[i].phase,
+               lines[i].caller->number, lines[i].call->asked, lines[i].call->replied);
+    for (vcpu = 0; vcpu < VCPUS; vcpu++)
+        printf("vcpu %" PRIu32 " pending none\n", vcpu);
+    printf("done\n");
+    free(lines);
+}
+
+static void share(struct its_pass *root)
+{
+    static const struct its_window_in window = {0x80000000u, 0x200000};
+    static const struct its_fill_in fill = {CONFIG, LPIS};
+    struct its_description_in numbers = {0};
+    struct its_make_fault_out fault;
+    uint64_t pending[VCPUS];
+    uint8_t bytes[LPIS];
+    uint32_t code, i;
+
+    numbers.vcpus = VCPUS;
+    numbers.device_bits = 16;
+    numbers.lpi_bits = 16;
+    numbers.profile = 1;
+    numbers.config = CONFIG;
+    for (i = 0; i < VCPUS; i++)
+        pending[i] = 0x80040000u + 0x10000u * i;
+    memset(bytes, 0xa1, sizeof bytes);
+    code = its_share(root, &numbers, &window, 1, pending, VCPUS, NULL, 0, NULL, 0, &fill, 1, bytes, LPIS, &fault);
+    if (code != ITS_DONE)
+        fail("its_share", code);
+}
+
+int main(int argc, char **argv)
+{
+    static void *(*const bodies[THREADS])(void *) = {device_thread, device_thread, vcpu_thread, vcpu_thread,
+                                                     vcpu_thread, vcpu_thread, command_thread, saving_thread};
+    struct caller root = caller_of(1, 1), callers[THREADS];
+    pthread_t threads[THREADS];
+    uint32_t driven, i, code;
+    uint64_t busy = 0;
+
+    if (argc > 1)
+        signals = (uint32_t)strtoul(argv[1], NULL, 10);
+    share(&root.pass);
+    queue_at = drive(&root);
+    driven = root.count;
+    for (i = 0; i < THREADS; i++) {
+        callers[i] = caller_of(2, i + 1);
+        code = its_split(&root.pass, &callers[i].pass);
+        if (code != ITS_DONE)
+            fail("its_split", code);
+    }
+    for (i = 0; i < THREADS; i++)
+        if (pthread_create(&threads[i], NULL, bodies[i], &callers[i]) != 0)
+            fail("pthread_create", i);
+    for (i = 0; i < THREADS; i++)
+        pthread_join(threads[i], NULL);
+    for (i = 0; i < VCPUS; i++)
+        while (take(&root, i))
+            ;
+    print_all(&root, driven, callers);
+    code = its_pass_free(&root.pass);
+    for (i = 0; i < THREADS && code == ITS_DONE; i++) {
+        busy += callers[i].busy;
+        free(callers[i].calls);
+        code = its_pass_free(&callers[i].pass);
+    }
+    if (code != ITS_DONE)
+        fail("its_pass_free", code);
+    free(root.calls);
+    fprintf(stderr, "busy tries: %" PRIu64 "\n", busy);
+    return 0;
+}
