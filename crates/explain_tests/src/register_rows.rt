@@ -14,6 +14,7 @@ read 0x104 4
 read 0x8 8
 write 0x0 4 0
 write 0x100 8 0x8000000080100001
+write 0x104 4 0x81070000
 ";
     let entries = "
 12 2.1 write 0x88 8 0x20000 -> ok
@@ -26,6 +27,7 @@ write 0x100 8 0x8000000080100001
 19 2.1 read 0x8 8 -> value 0x1ef71
 20 2.1 write 0x0 4 0x0 -> ok
 21 2.1 write 0x100 8 0x8000000080100001 -> ok
+22 2.1 write 0x104 4 0x81070000 -> ok
 ";
     let told = "
 12 2.1 write 0x88 8 0x20000 -> ok
@@ -52,6 +54,8 @@ write 0x100 8 0x8000000080100001
 21 2.1 write 0x100 8 0x8000000080100001 -> ok
         line 33: GITS_BASER0: the device table at 0x80100000 has 2 x 64 KiB, valid; written
         0x8000000080100001, it reads 0x8107000080100201; unmapped: 1 device with 1 event
+22 2.1 write 0x104 4 0x81070000 -> ok
+        line 34: GITS_BASER0: the device table at 0x80100000 has 2 x 64 KiB, valid
 ";
     let right = is_told_after(rt.alloc(), calls, entries, TOLD, told);
     assert_eq!(rt; right, Some(true));

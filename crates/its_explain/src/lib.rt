@@ -20,6 +20,7 @@ mod looks;
 mod machine_fault;
 mod many;
 mod missing;
+mod near;
 mod order;
 mod refused;
 mod register_values;

@@ -34,6 +34,15 @@ impl Access {
             field(whole, 0, 32)
         }
     }
+
+    /// What is written there.
+    fn written(&self) -> u64 {
+        if self.size == 8 {
+            self.value
+        } else {
+            field(self.value, 0, 32)
+        }
+    }
 }
 
 /// Adds what a write of a translator's register came to.
@@ -73,7 +82,7 @@ pub fn push_write(
 /// Adds what a register has of the value that was written, if that isn't the same.
 fn push_kept(out: &mut String, access: Access, after: u64) -> Result<(), AllocError> {
     let kept = access.part(after);
-    if kept == access.part(access.value) {
+    if kept == access.written() {
         Ok(())
     } else {
         write!(out, "; written 0x{:x}, it reads 0x{kept:x}", access.value)

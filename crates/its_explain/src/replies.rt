@@ -53,7 +53,10 @@ fn push_step(out: &mut String, sources: &Sources, step: StepReply) -> Result<(),
             };
             match sources.book.writer(taken.addr.0) {
                 Some(line) => write!(out, "not done, of line {line}: ")?,
-                None => write!(out, "not done, of 0x{:x}: ", taken.addr.0)?,
+                None => {
+                    let addr = taken.addr.0;
+                    write!(out, "not done, of 0x{addr:x}, which no line wrote: ")?;
+                }
             }
             push_reason(out, sources, taken, reason)
         }

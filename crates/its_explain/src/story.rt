@@ -3,7 +3,7 @@ use crate::book::Book;
 use crate::call_lines::CallLine;
 use crate::entries::{Entry, entry_of};
 use crate::facts::{Fact, Taken};
-use crate::left::{Left, Next, count_calls, cut};
+use crate::left::{Left, Missing, Next, count_calls, cut};
 use crate::lines::{first_words, number};
 use crate::replayed::Replayed;
 use crate::replies::push_reply;
@@ -113,7 +113,7 @@ impl<'a> Story<'a> {
     ) -> Result<Told, AllocError> {
         let Some(next) = self.left.take(entry.phase, entry.thread) else {
             push_difference(out, line)?;
-            out.push_str("This thread has no call left in the first phase that has calls left.\n")?;
+            self.push_missing(out, entry)?;
             return Ok(Told::Wrong);
         };
         let taken = self.command_for(&next.call);
@@ -126,6 +126,29 @@ impl<'a> Story<'a> {
         let told = self.tell_made(out, line, entry, &next, taken, &made)?;
         self.remember(&next, taken, &made, &watch)?;
         Ok(told)
+    }
+
+    /// Adds why no call is left of which an entry could tell.
+    fn push_missing(&self, out: &mut String, entry: &Entry) -> Result<(), AllocError> {
+        let (phase, thread) = (entry.phase, entry.thread);
+        match self.left.missing(phase, thread) {
+            Missing::Phase(1) => writeln!(out, "and the leg has one phase."),
+            Missing::Phase(phases) => writeln!(out, "and the leg has {phases} phases."),
+            Missing::Thread(1) => writeln!(out, "and phase {phase} of the leg has one thread."),
+            Missing::Thread(threads) => {
+                writeln!(out, "and phase {phase} of the leg has {threads} threads.")
+            }
+            Missing::Over => {
+                writeln!(
+                    out,
+                    "and all calls of thread {phase}.{thread} are told already."
+                )
+            }
+            Missing::Earlier(line) => writeln!(
+                out,
+                "and the call of line {line} is left, whose phase comes before phase {phase}."
+            ),
+        }
     }
 
     /// Tells what came of a call, or what the line would have to say.
@@ -145,11 +168,10 @@ impl<'a> Story<'a> {
             return Ok(Told::Right);
         }
         push_difference(out, line)?;
-        out.push_str("and a run's line is\n")?;
         let place = self.places;
         let (phase, thread) = (entry.phase, entry.thread);
         let right = format!(in self.alloc; "{place} {phase}.{thread} {}", text.as_str())?;
-        push_plain(out, right.as_str().as_bytes())?;
+        push_right(out, line, right.as_str().as_bytes())?;
         self.push_came(out, next, taken, made)?;
         Ok(Told::Wrong)
     }
@@ -232,8 +254,7 @@ impl<'a> Story<'a> {
             let right = vcpu_text(self.alloc, vcpu as u64, &text)?;
             if !says(right.as_str(), line) {
                 push_difference(out, line)?;
-                out.push_str("and a run's line is\n")?;
-                push_plain(out, right.as_str().as_bytes())?;
+                push_right(out, line, right.as_str().as_bytes())?;
                 return Ok(Told::Wrong);
             }
         }
@@ -279,8 +300,7 @@ impl<'a> Story<'a> {
         }
         if !says(right.as_str(), line) {
             push_difference(out, line)?;
-            out.push_str("and a run's line is\n")?;
-            push_plain(out, right.as_str().as_bytes())?;
+            push_right(out, line, right.as_str().as_bytes())?;
             return Ok(Told::Wrong);
         }
         push_heading(out, line)?;
@@ -341,4 +361,19 @@ fn push_trimmed(out: &mut String, line: &[u8]) -> Result<(), AllocError> {
 fn push_difference(out: &mut String, line: &[u8]) -> Result<(), AllocError> {
     out.push_str("The report says\n")?;
     push_plain(out, line)
+}
+
+/// Adds a run's line, and that a line has but spaces more than it.
+fn push_right(out: &mut String, line: &[u8], right: &[u8]) -> Result<(), AllocError> {
+    out.push_str("and a run's line is\n")?;
+    push_plain(out, right)?;
+    if has_spaces_more(line, right) {
+        out.push_str("without the spaces at its end.\n")?;
+    }
+    Ok(())
+}
+
+fn has_spaces_more(line: &[u8], right: &[u8]) -> bool {
+    let more = line.get(right.len()..).unwrap_or(&[]);
+    line.starts_with(right) && !more.is_empty() && more.iter().all(|b| *b == b' ')
 }
