@@ -34,3 +34,12 @@ def quiet(vm):
 def summary(vm, more=""):
     counts = vm.interrupts()
     return f"{len(counts)} interrupts, {total(counts)} counted{more}"
+
+
+def rate(vm):
+    """Interrupts in each second of QEMU's processor time, while each processor reads each disk, without a record."""
+    vm.end_record()
+    before, since = total(vm.interrupts()), vm.seconds()
+    vm.run("rated", 300)
+    spent = vm.seconds() - since
+    return (total(vm.interrupts()) - before) / spent

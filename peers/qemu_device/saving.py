@@ -15,10 +15,10 @@ def waiting(vm):
     time.sleep(1)
 
 
-def moved_to(vm, work, name, **like):
+def moved_to(vm, work, name, **changed):
     """The virtual machine goes on in another process, and with the same state. It tells for how long it stood still."""
     path = f"{work}/{name}.socket"
-    target = Vm(work, name, vm.library, incoming=f"unix:{path}", nvme=False, **{"latency": LATENCY, **like})
+    target = Vm(work, name, vm.library, incoming=f"unix:{path}", **{**vars(vm.options), **changed})
     vm.qmp("migrate", uri=f"unix:{path}")
     end = time.time() + 120 * PATIENCE
     while vm.qmp("query-migrate").get("status") not in ("completed", "failed"):
@@ -34,6 +34,7 @@ def moved_to(vm, work, name, **like):
         saves = [state for state in vm.states() if state[0] == "saved"]
         need(saves[-1][1:] == target.states()[0][1:], f"the state was {saves[-1]}, and is {target.states()[0]}")
         told += f" ({len(saves)} saves, {saves[-1][2]} pending, state {saves[-1][1][:8]} on both sides)"
+    target.text = vm.rest()
     vm.end()
     return target, told
 

@@ -74,8 +74,8 @@ REGISTERED = """    object_class_property_add_str(oc, "its-device", virt_get_its
                                           "emulated GIC");
 
 """
-MADE = """    dev = qdev_new(vms->its_device && !strcmp(itsclass, "arm-gicv3-its") ?
-                   vms->its_device : itsclass);
+MADE = """    dev = qdev_new(vms->its_device && !strcmp(its_class_name(), "arm-gicv3-its") ?
+                   vms->its_device : its_class_name());
 """
 EVENTS = """
 # bacciledru
@@ -166,7 +166,7 @@ def machine(tree):
     tree.put("include/hw/arm/virt.h", r"bool its;", "    char *its_device;\n", after=True)
     tree.put(path, r"static bool virt_get_its\(", PROPERTY)
     tree.put(path, r'object_class_property_add_bool\(oc, "its"', REGISTERED)
-    tree.replace(path, r"qdev_new\(itsclass\);", MADE)
+    tree.replace(path, r"qdev_new\((itsclass|its_class_name\(\))\);", MADE)
 
 
 def build_lines(name, watch):
