@@ -1,4 +1,8 @@
 """What each scenario looks at."""
+import time
+
+from vm import PATIENCE
+
 LATENCY = 5000000       # of disks of a guest that is saved, in ns, so that requests are on their way as it stops
 
 
@@ -23,6 +27,15 @@ def alive(vm, first):
     need(set(before) <= set(after), f"interrupts are gone: {set(before) - set(after)}")
     need(total(after) > total(before), "no interrupt was counted")
     return after
+
+
+def loaded(vm):
+    """All processors read all disks from now on."""
+    before = total(vm.interrupts())
+    vm.run("load")
+    end = time.time() + 60 * PATIENCE
+    while total(vm.interrupts()) < before + 50:
+        need(time.time() < end, "watchdog: the disks aren't read")
 
 
 def quiet(vm):

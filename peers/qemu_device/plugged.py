@@ -2,7 +2,7 @@
 import re
 import time
 
-from checks import LATENCY, alive, need, quiet, summary
+from checks import LATENCY, alive, loaded, need, quiet, summary
 from saving import moved_to
 from vm import PATIENCE, Vm
 
@@ -54,7 +54,7 @@ def firmware(work, name, library):
         vm.run("again virtio virtio_blk virtio")
     vm.run("taskset -p f 1")
     alive(vm, 32)
-    vm.run("load")
+    loaded(vm)
     dimm = ("-object", f"memory-backend-ram,id=more,size={SIZE}", "-device",
             f"pc-dimm,id=dimm,memdev=more,node=1,addr={base:#x}")
     before = vm

@@ -170,6 +170,10 @@ class Vm:
         """A number in what the device tells."""
         return int(re.search(pattern + r"\D*(\d+)", self.info())[1])
 
+    def pending(self):
+        """How many LPIs are pending, as the device tells."""
+        return sum(int(count) for count in re.findall(r"(\d+) pending", self.info()))
+
     def of_bus(self, line):
         self.bus.write(line + "\n")
         self.bus.flush()

@@ -2,7 +2,7 @@
 import os
 import time
 
-from checks import LATENCY, alive, need, quiet, summary
+from checks import LATENCY, alive, loaded, need, quiet, summary
 from saving import moved_to
 from vm import PATIENCE, Vm
 
@@ -54,7 +54,8 @@ def on_kernel(kernel, cpu="cortex-a57"):
         vm = Vm(work, name + "-0", library, kernel=kernel, cpu=cpu, nvme=False, latency=LATENCY)
         linux, seconds = vm.ready()
         alive(vm, 0)
-        vm.run("move 4; processor 2 0; work 32; processor 2 1; again virtio virtio_rng virtio; work 64; load")
+        vm.run("move 4; processor 2 0; work 32; processor 2 1; again virtio virtio_rng virtio; work 64")
+        loaded(vm)
         vm, told = moved_to(vm, work, name + "-1")
         vm.run("unload")
         alive(vm, 96)
@@ -101,7 +102,7 @@ def reset(work, name, library):
     """stopped and set going again under load, and then a reset"""
     vm = Vm(work, name, library, reboot=True)
     vm.ready()
-    vm.run("load")
+    loaded(vm)
     for _ in range(5):
         vm.qmp("stop")
         vm.qmp("cont")
@@ -116,7 +117,7 @@ def moves(work, name, library):
     """interrupts moved under load"""
     vm = Vm(work, name, library)
     vm.ready()
-    vm.run("load")
+    loaded(vm)
     for times in range(3):
         for mask in ("2", "8", "4", "1", "f"):
             vm.run(f"move {mask}")
@@ -210,7 +211,7 @@ def stress(work, name, library):
     """all of it again and again"""
     vm = Vm(work, name, library)
     vm.ready()
-    vm.run("load")
+    loaded(vm)
     end, rounds = time.time() + float(os.environ.get("SECONDS_OF_STRESS", "3600")), 0
     while time.time() < end:
         for number in (1, 2, 3):
