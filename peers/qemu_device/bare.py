@@ -190,7 +190,7 @@ def without_linux(work, name, library):
     vm.deliver(False)
     for i in range(count):
         machine.signal(i)
-    vm, told = saving.moved_to(vm, work, name + "-1", linux=False, processors=count, memory=256, disks=())
+    vm, told = saving.moved_to(vm, work, name + "-1")
     machine.vm = vm
     vm.deliver(True)
     for i in range(count):

@@ -1,4 +1,8 @@
 """What each scenario looks at."""
+import time
+
+from vm import PATIENCE
+
 LATENCY = 5000000       # of disks of a guest that is saved, in ns, so that requests are on their way as it stops
 
 
@@ -25,6 +29,15 @@ def alive(vm, first):
     return after
 
 
+def loaded(vm):
+    """All processors read all disks from now on."""
+    before = total(vm.interrupts())
+    vm.run("load")
+    end = time.time() + 60 * PATIENCE
+    while total(vm.interrupts()) < before + 50:
+        need(time.time() < end, "watchdog: the disks aren't read")
+
+
 def quiet(vm):
     """Nothing that a translator wrote to QEMU's log: a dropped signal, a refused command."""
     errors = vm.guest_errors()
@@ -34,3 +47,12 @@ def quiet(vm):
 def summary(vm, more=""):
     counts = vm.interrupts()
     return f"{len(counts)} interrupts, {total(counts)} counted{more}"
+
+
+def rate(vm):
+    """Interrupts in each second of QEMU's processor time, while each processor reads each disk, without a record."""
+    vm.end_record()
+    before, since = total(vm.interrupts()), vm.seconds()
+    vm.run("rated", 300)
+    spent = vm.seconds() - since
+    return (total(vm.interrupts()) - before) / spent

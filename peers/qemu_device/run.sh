@@ -3,6 +3,7 @@
 #
 # usage: run.sh build DIR ARCHIVE      fetches and builds qemu-system-aarch64 and the guest; ARCHIVE is libits_c.a
 #        run.sh preload DIR ARCHIVE    instead: the device for the qemu-system-aarch64 that is installed, and the guest
+#        run.sh kernels DIR            more of Debian's kernels for scenarios: 5.10, 6.12 (also -rt and 16k), the newest
 #        run.sh patch QEMU ARCHIVE     prints what is put into the files of a tree of QEMU, as a patch
 #        run.sh boot DIR library|own   boots the guest, with a shell on this terminal
 #        run.sh scenarios DIR [library|own [NAME ..]]          runs scenarios, and prints a table
@@ -14,16 +15,14 @@ here=$(dirname "$(realpath "$0")")
 kernel=6.1.0-56-cloud-arm64
 guest_packages="linux-image-$kernel busybox-static kexec-tools libc6 zlib1g libxenmisc4.17 libxentoollog1 libxentoolcore1
     libxencall1 libxenevtchn1 libxengnttab1 libxenforeignmemory1 libxendevicemodel1"
-modules="drivers/virtio/virtio_ring drivers/virtio/virtio drivers/virtio/virtio_pci_modern_dev
-    drivers/virtio/virtio_pci_legacy_dev drivers/virtio/virtio_pci drivers/block/virtio_blk drivers/char/hw_random/virtio-rng
-    net/core/failover drivers/net/net_failover drivers/net/virtio_net"
 features="--target-list=aarch64-softmmu --without-default-features --without-default-devices --with-devices-aarch64=its
     --enable-tcg --enable-slirp --enable-fdt=system --enable-trace-backends=log --disable-docs --disable-werror --disable-install-blobs"
 
-# Lists of packages of this folder's own, with sources and arm64, so that those of the host stay as they are.
+# Lists of packages of a folder's own, with sources and arm64, so that those of the host stay as they are.
 lists() {
+    local place
     mkdir -p "$1/apt/lists/partial" "$1/apt/cache/archives/partial"
-    for place in "debian bookworm" "debian bookworm-updates" "debian-security bookworm-security"; do
+    for place in "${@:2}"; do
         echo "deb http://deb.debian.org/$place main"
         echo "deb-src http://deb.debian.org/$place main"
     done >"$1/apt/sources.list"
@@ -41,7 +40,7 @@ EOF
 
 fetch() {
     local package
-    lists "$1"
+    lists "$1" "debian bookworm" "debian bookworm-updates" "debian-security bookworm-security"
     [ -d "$1/qemu" ] || (cd "$1" && apt-get -q source --download-only qemu=1:7.2+dfsg-7+deb12u18 &&
         dpkg-source -x qemu_7.2*.dsc qemu)
     [ -d "$1/packages" ] && return
@@ -63,26 +62,28 @@ build_qemu() {
     ln -sf build/qemu-system-aarch64 "$1/qemu-system-aarch64"
 }
 
-# The kernel, and what it starts from: busybox, the drivers, kexec with its libraries, and init.
 build_guest() {
-    local root=$1/root files=$1/packages module library
-    rm -rf "$root"
-    mkdir -p "$root/bin" "$root/sbin" "$root/lib" "$root/proc" "$root/sys" "$root/dev" "$root/tmp"
-    cp "$files/boot/vmlinuz-$kernel" "$1/vmlinuz"
-    cp "$files/bin/busybox" "$root/bin/"
-    ln -s busybox "$root/bin/sh"
-    for module in $modules; do
-        cp "$files/lib/modules/$kernel/kernel/$module.ko" "$root/lib/"
-        basename "$module" >>"$root/lib/modules.list"
-    done
-    cp "$files/sbin/kexec" "$root/sbin/"
-    for library in "$files"/lib/aarch64-linux-gnu/{ld-linux-aarch64.so.1,libc.so.6,libz.so.1} \
-        "$files"/usr/lib/aarch64-linux-gnu/libxen*.so.*; do
-        cp -L "$library" "$root/lib/"
-    done
-    cp "$here/init" "$root/init"
-    chmod +x "$root/init"
-    (cd "$root" && find . | LC_ALL=C sort | cpio -o -H newc --quiet | gzip -1) >"$1/initrd.gz"
+    python3 "$here/guest.py" "$1/packages" "$1/packages" "$1"
+}
+
+# Each kernel's guest in DIR/kernels/NAME/guest.
+kernels() {
+    local of=$1/kernels name package packages
+    lists "$of" "debian bullseye" "debian trixie" "debian-security trixie-security" "debian trixie-backports"
+    while read -r name packages; do
+        mkdir -p "$of/$name/guest"
+        (cd "$of/$name" && apt-get -q download $(printf '%s:arm64 ' $packages))
+        for package in "$of/$name"/*.deb; do
+            dpkg -x "$package" "$of/$name"
+        done
+        python3 "$here/guest.py" "$1/packages" "$of/$name" "$of/$name/guest"
+    done <<EOF
+5.10 linux-image-5.10.0-32-cloud-arm64
+6.12 linux-image-6.12.118+deb13-cloud-arm64
+6.12-rt linux-image-6.12.118+deb13-rt-arm64
+6.12-16k linux-image-6.12.118+deb13-arm64-16k
+7.3 linux-binary-7.3.4+deb13-cloud-arm64 linux-modules-7.3.4+deb13-cloud-arm64
+EOF
 }
 
 build() {
@@ -158,10 +159,11 @@ check() {
 case "${1:-}" in
 build) mkdir -p "$2" && build "$(realpath "$2")" "$(realpath "$3")" ;;
 preload) mkdir -p "$2" && preload "$(realpath "$2")" "$(realpath "$3")" ;;
+kernels) kernels "$(realpath "$2")" ;;
 patch) patch_of "$(realpath "$2")" "$(realpath "$3")" ;;
 boot) boot "$2" "$3" ;;
 scenarios) exec python3 "$here/scenarios.py" "$(realpath "$2")" "${@:3}" ;;
 check) check "$(realpath "$2")" "${@:3}" ;;
 speed) exec python3 "$here/speed.py" "$(realpath "$2")" "${@:3}" ;;
-*) sed -n '4,10s/^# //p' "$0" >&2 && exit 2 ;;
+*) sed -n '4,11s/^# //p' "$0" >&2 && exit 2 ;;
 esac

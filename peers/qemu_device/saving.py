@@ -2,7 +2,7 @@
 import os
 import time
 
-from checks import LATENCY, alive, need, quiet, summary
+from checks import LATENCY, alive, loaded, need, quiet, summary
 from vm import DEVICE, PATIENCE, Vm
 
 GITS = 0x08080000
@@ -10,15 +10,18 @@ BASER = GITS + 0x100
 
 
 def waiting(vm):
-    """How many LPIs wait while none are delivered: the guest reads from all disks, and what they send stays pending."""
+    """None are delivered from now on: the guest reads from all disks, and what they send stays pending."""
     vm.deliver(False)
-    time.sleep(1)
+    end = time.time() + 2 * PATIENCE
+    while time.time() < end and not (vm.library and vm.pending()):
+        time.sleep(1)
+    need(not vm.library or vm.pending(), vm.info())
 
 
-def moved_to(vm, work, name, **like):
+def moved_to(vm, work, name, **changed):
     """The virtual machine goes on in another process, and with the same state. It tells for how long it stood still."""
     path = f"{work}/{name}.socket"
-    target = Vm(work, name, vm.library, incoming=f"unix:{path}", nvme=False, **{"latency": LATENCY, **like})
+    target = Vm(work, name, vm.library, incoming=f"unix:{path}", **{**vars(vm.options), **changed})
     vm.qmp("migrate", uri=f"unix:{path}")
     end = time.time() + 120 * PATIENCE
     while vm.qmp("query-migrate").get("status") not in ("completed", "failed"):
@@ -34,6 +37,7 @@ def moved_to(vm, work, name, **like):
         saves = [state for state in vm.states() if state[0] == "saved"]
         need(saves[-1][1:] == target.states()[0][1:], f"the state was {saves[-1]}, and is {target.states()[0]}")
         told += f" ({len(saves)} saves, {saves[-1][2]} pending, state {saves[-1][1][:8]} on both sides)"
+    target.text = vm.rest()
     vm.end()
     return target, told
 
@@ -42,7 +46,7 @@ def migration(work, name, library):
     """migration under load: LPIs pending, and then requests on their way"""
     vm = Vm(work, name + "-0", library, nvme=False, latency=LATENCY)
     vm.ready()
-    vm.run("load")
+    loaded(vm)
     waiting(vm)
     vm, first = moved_to(vm, work, f"{name}-1")
     vm.deliver(True)
@@ -60,7 +64,7 @@ def snapshot(work, name, library):
     vm = Vm(work, name, library, nvme=False, latency=LATENCY)
     vm.ready()
     vm.snapshots(f"{work}/{name}.qcow2")
-    vm.run("load")
+    loaded(vm)
     waiting(vm)
     vm.job("snapshot-save", tag="one", vmstate="snapshots", devices=["snapshots"])
     vm.deliver(True)
@@ -111,7 +115,7 @@ def cancelled(work, name, library):
     """a migration cancelled, one whose target dies, one that is refused, and one that works"""
     vm = Vm(work, name + "-0", library, nvme=False, latency=LATENCY)
     vm.ready()
-    vm.run("load")
+    loaded(vm)
     for leg in ("cancelled", "failed"):
         vm.qmp("migrate-set-parameters", **{"max-bandwidth": 1 << 20})
         path = f"{work}/{name}.socket"
@@ -140,7 +144,7 @@ def postcopy(work, name, library):
     path = f"{work}/{name}.socket"
     vm = Vm(work, name + "-0", library, nvme=False, latency=LATENCY)
     vm.ready()
-    vm.run("load")
+    loaded(vm)
     target = Vm(work, name + "-1", library, incoming="defer", nvme=False, latency=LATENCY)
     for each in (vm, target):
         each.qmp("migrate-set-capabilities", capabilities=[{"capability": "postcopy-ram", "state": True}])
@@ -163,7 +167,7 @@ def again(work, name, library):
     vm = Vm(work, name, library, nvme=False, latency=LATENCY)
     vm.ready()
     vm.snapshots(f"{work}/{name}.qcow2")
-    vm.run("load")
+    loaded(vm)
     for times in range(8):
         vm.job("snapshot-save", tag="one", vmstate="snapshots", devices=["snapshots"])
         vm.run(f"move {1 << times % 4:x}")

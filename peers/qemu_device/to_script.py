@@ -5,8 +5,9 @@ usage: to_script.py RECORD FOLDER [--most BYTES] [--short TITLE]
 
 Each machine that a guest used, made at a reset or from loaded tables, is a script of its own: FOLDER/N.its, its report
 FOLDER/N.report, and both as FOLDER/N.check. Its windows are the stretches of guest memory that calls or tables name. A
-poke that leaves its bytes as they were is left out. --most ends a script where the input of a check would be longer. --short makes an
-example of it, with a title: without saves and reads of memory, and of a table that is copied in whole its first piece.
+poke that leaves its bytes as they were is left out, and a read of a register that repeats the call before it with the
+same reply. --most ends a script where the input of a check would be longer. --short makes an example of it, with a
+title: without saves and reads of memory, and of a table that is copied in whole its first piece.
 """
 import argparse
 import os
@@ -51,6 +52,7 @@ class Machine:
         self.stretches = []
         self.memory = Memory()
         self.of_body = False
+        self.again = 0
 
     def name(self, address, length):
         self.stretches.append((address // UNIT * UNIT, (address + length + UNIT - 1) // UNIT * UNIT))
@@ -90,6 +92,9 @@ class Machine:
             value = int(fields[3], 0)
             if value >> 63:
                 self.name(value & 0x0000FFFFFFFFF000, UNIT * ((value & 0xFF) + 1))
+        elif fields[0] == "read" and self.calls and self.calls[-1] == line:
+            self.again += 1
+            return
         self.calls.append(line)
 
     def windows(self):
@@ -183,7 +188,7 @@ def main():
                 f.write("\n".join(lines) + "\n")
         words = [line.split()[0] for line in machine.calls]
         counts = " ".join(f"{word} {words.count(word)}" for word in sorted(set(words)))
-        print(f"{base}.check: {len(words)} calls ({counts}){', cut' if cut else ''}, "
+        print(f"{base}.check: {len(words)} calls ({counts}){', cut' if cut else ''}, {machine.again} reads again, "
               f"{sum(end - base for base, end in machine.windows()) >> 10} KiB in {len(machine.windows())} windows")
 
 

@@ -4,7 +4,7 @@
  *
  * ITS_RECORD=FILE  each call that goes to the library, with what it answered, in the words of
  *                  docs/FORMATS.md, and a checksum of the state at each save and after each restore:
- *                  to_script.py makes a script and a report of it
+ *                  to_script.py makes a script and a report of it; SIGUSR2 ends it
  * ITS_TIMES=FILE   how long signals, commands and acknowledgements take, of both translators
  *
  * SPDX-License-Identifier: MIT OR Apache-2.0
@@ -171,12 +171,30 @@ static void end_machine(void)
     }
 }
 
+static volatile sig_atomic_t ending;
+
+static void end_asked(int number)
+{
+    ending = 1;
+}
+
+/* After SIGUSR2 the record ends before the next signal. */
+static void end_record(void)
+{
+    if (record && ending) {
+        end_machine();
+        fclose(record);
+        record = NULL;
+    }
+}
+
 static void __attribute__((constructor)) start_record(void)
 {
     const char *name = getenv("ITS_RECORD");
 
     if (name) {
         record = fopen(name, "w");
+        signal(SIGUSR2, end_asked);
         atexit(end_machine);
     }
 }
@@ -306,7 +324,10 @@ uint32_t __wrap_its_forget(struct its_handle *handle, uint64_t address, uint64_t
 uint32_t __wrap_its_signal(struct its_handle *handle, uint32_t device, uint32_t event,
                            struct its_signal_out *out)
 {
-    uint32_t answer = __real_its_signal(handle, device, event, out);
+    uint32_t answer;
+
+    end_record();
+    answer = __real_its_signal(handle, device, event, out);
 
     if (out->cause == ITS_CAUSE_DELIVERED) {
         say("signal %u %u -> delivered %u %u\n", device, event, out->vcpu, out->intid);

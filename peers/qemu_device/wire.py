@@ -19,7 +19,7 @@ TOP = os.path.join(HERE, "..", "..")
 WATCHED = ["gicv3_its_init_mmio", "define_arm_cp_regs_with_opaque_len",
            "memory_global_after_dirty_log_sync"]
 # What the machine is built with: `virt`, and devices and bridges that send their interrupts through the ITS.
-PARTS = ["ARM_VIRT", "ARM_GICV3_TCG", "ARM_V7M", "GENERIC_LOADER", "IVSHMEM_DEVICE", "NVME_PCI", "PCIE_PORT",
+PARTS = ["ARM_VIRT", "ARM_V7M", "GENERIC_LOADER", "IVSHMEM_DEVICE", "NVME_PCI", "PCIE_PORT",
          "VIRTIO_BLK", "VIRTIO_NET", "VIRTIO_PCI", "VIRTIO_RNG"]
 
 FIELDS = """
@@ -74,8 +74,8 @@ REGISTERED = """    object_class_property_add_str(oc, "its-device", virt_get_its
                                           "emulated GIC");
 
 """
-MADE = """    dev = qdev_new(vms->its_device && !strcmp(itsclass, "arm-gicv3-its") ?
-                   vms->its_device : itsclass);
+MADE = """    dev = qdev_new(vms->its_device && !strcmp(its_class_name(), "arm-gicv3-its") ?
+                   vms->its_device : its_class_name());
 """
 EVENTS = """
 # bacciledru
@@ -166,20 +166,20 @@ def machine(tree):
     tree.put("include/hw/arm/virt.h", r"bool its;", "    char *its_device;\n", after=True)
     tree.put(path, r"static bool virt_get_its\(", PROPERTY)
     tree.put(path, r'object_class_property_add_bool\(oc, "its"', REGISTERED)
-    tree.replace(path, r"qdev_new\(itsclass\);", MADE)
+    tree.replace(path, r"qdev_new\((itsclass|its_class_name\(\))\);", MADE)
 
 
-def build_lines(name, watch):
+def build_lines(name, gic, watch):
     lines = ["bacciledru = declare_dependency(link_args: [meson.current_source_dir() / 'libits_c.a'])",
-             f"{name}.add(when: 'CONFIG_ARM_GICV3_TCG', if_true: [files(",
+             f"{name}.add(when: 'CONFIG_{gic}', if_true: [files(",
              *(f"  '{it}'," for it in sorted(os.listdir(os.path.join(HERE, "device"))) if it.endswith(".c")),
              "), bacciledru])"]
     if watch:
         with open(os.path.join(HERE, "watch.c")) as f:
             words = WATCHED + re.findall(r"^REAL\((its_\w+)\);", f.read(), re.M)
         lines += ["watch = declare_dependency(link_args: [", *(f"  '-Wl,--wrap={it}'," for it in words), "])",
-                  f"{name}.add(when: 'CONFIG_ARM_GICV3_TCG', if_true: [files('watch.c'), watch])",
-                  "specific_ss.add(when: 'CONFIG_ARM_GICV3_TCG', if_true: files('watch_cpu.c', 'written_pages.c'))"]
+                  f"{name}.add(when: 'CONFIG_{gic}', if_true: [files('watch.c'), watch])",
+                  f"specific_ss.add(when: 'CONFIG_{gic}', if_true: files('watch_cpu.c', 'written_pages.c'))"]
     return "\n".join(lines) + "\n"
 
 
@@ -212,9 +212,10 @@ def main():
     copy(os.path.join(TOP, "include", "its.h"), os.path.join(folder, "its.h"))
     shutil.copy2(args.archive, os.path.join(folder, "libits_c.a"))
     name = "system_ss" if "system_ss" in build else "softmmu_ss"
-    write(os.path.join(folder, "meson.build"), build_lines(name, args.watch))
+    gic = "ARM_GICV3_TCG" if "ARM_GICV3_TCG" in build else "ARM_GICV3"
+    write(os.path.join(folder, "meson.build"), build_lines(name, gic, args.watch))
     write(os.path.join(args.tree, "configs", "devices", "aarch64-softmmu", "its.mak"),
-          "".join(f"CONFIG_{it}=y\n" for it in PARTS))
+          "".join(f"CONFIG_{it}=y\n" for it in [gic, *PARTS]))
 
 
 main()

@@ -112,6 +112,7 @@ int bacciledru_post_load(void *opaque, int version);
 
 /* queue.c */
 void bacciledru_take_commands(BacciledruIts *s);
+void bacciledru_take_waited(BacciledruIts *s);
 void bacciledru_queue_init(BacciledruIts *s);
 int bacciledru_send_msi(GICv3ITSState *its, uint32_t event, uint16_t device);
 

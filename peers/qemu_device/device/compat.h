@@ -6,6 +6,7 @@
 #ifndef BACCILEDRU_COMPAT_H
 #define BACCILEDRU_COMPAT_H
 
+#include "qapi/error.h"
 #if __has_include("system/memory.h")
 #include "system/memory.h"
 #else

@@ -21,6 +21,9 @@ static MemTxResult control_read(void *opaque, hwaddr offset, uint64_t *value, un
     BacciledruIts *s = opaque;
     hwaddr id = offset - GITS_IDREGS;      /* GITS_PIDR2, at 0x18, is the library's */
 
+    if (offset == GITS_CREADR) {
+        bacciledru_take_waited(s);
+    }
     *value = id < 0x30 && id != 0x18 ? gicv3_idreg(s->gic, id, GICV3_PIDR0_ITS) :
              bacciledru_register(s, offset, size);
     trace_bacciledru_read(offset, *value, size);

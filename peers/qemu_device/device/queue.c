@@ -3,8 +3,8 @@
  *
  * A write of the control frame takes commands for a while, as long as they are short. The others,
  * and what is left, a bottom half takes in slices, between which QEMU's big lock is free. A guest that
- * waits for its commands reads GITS_CREADR again and again, and the bottom half has to get the lock
- * from it: so what is short is better taken at once.
+ * waits for its commands reads GITS_CREADR again and again, and the bottom half would have to get the
+ * lock from it: so what is short is better taken at once, and each such read takes a slice too.
  *
  * SPDX-License-Identifier: MIT OR Apache-2.0
  */
@@ -137,6 +137,18 @@ static void take_later(void *opaque)
 {
     if (runstate_is_running()) {
         take_slice(opaque, false);
+    }
+}
+
+/* The guest waits for its commands. */
+void bacciledru_take_waited(BacciledruIts *s)
+{
+    struct its_stretch_out place;
+    uint64_t count = 0;
+
+    bacciledru_done(s, "its_needs", its_needs(s->handle, &place, 1, &count));
+    if (count > 0) {
+        take_later(s);
     }
 }
 
