@@ -11,9 +11,6 @@ SIZE = 512 << 20
 NODES = ("-object", "memory-backend-ram,id=first,size=512M", "-numa", "node,nodeid=0,memdev=first,cpus=0-2", "-numa",
          "node,nodeid=1,cpus=3")
 
-# What the kernel's allocator kept for that processor is of the other node: it is given back, and not looked at again.
-NEAR = "for it in /sys/kernel/slab/kmalloc-*; do echo 0 >$it/remote_node_defrag_ratio; echo 1 >$it/shrink; done"
-
 
 def memory_of(vm):
     return int(re.search(r"MemTotal:\s*(\d+) kB", vm.run("grep MemTotal /proc/meminfo"))[1])
@@ -52,7 +49,7 @@ def firmware(work, name, library):
     need(said.count("tables/") == 2, f"tables: {said}")
     alive(vm, 0)
     base = plug(vm)
-    vm.run(NEAR)
+    vm.run("fill")
     vm.run("taskset -p 8 1; again virtio virtio_blk virtio; again virtio virtio_blk virtio; taskset -p f 1")
     alive(vm, 32)
     loaded(vm)
