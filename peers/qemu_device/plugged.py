@@ -49,10 +49,8 @@ def firmware(work, name, library):
     need(said.count("tables/") == 2, f"tables: {said}")
     alive(vm, 0)
     base = plug(vm)
-    vm.run("taskset -p 8 1")
-    for _ in range(8):
-        vm.run("again virtio virtio_blk virtio")
-    vm.run("taskset -p f 1")
+    vm.run("fill")
+    vm.run("taskset -p 8 1; again virtio virtio_blk virtio; again virtio virtio_blk virtio; taskset -p f 1")
     alive(vm, 32)
     loaded(vm)
     dimm = ("-object", f"memory-backend-ram,id=more,size={SIZE}", "-device",
