@@ -7,7 +7,7 @@
 #
 # LIBRARY_AARCH64 is the libits_c.a that `rt lib --target aarch64-unknown-linux-gnu` made. The logs are what the runs
 # printed that proved this commit: `.ci/run`, or `rt ci its_cli its_c its_web`, which proves and tries those and all that
-# they stand on, and three `rt lib`: two of its_c, and that of its_web for wasm64-unknown-unknown. Each crate that is
+# they stand on, and three `rt lib`: two of its_c, and that of its_web, which web/build.sh makes. Each crate that is
 # linked has to be in one, and each of its edits has to be told as refused in one (proved.py); that they are of this
 # commit is for the caller to know. The program is what the gate leaves in crates/its_cli/out, the library for x86_64
 # what `rt lib` leaves in crates/its_c/out, the page what web/build.sh makes; PROGRAM, LIBRARY and PAGE in the
@@ -46,7 +46,7 @@ commit=$(git rev-parse HEAD)
 [ -z "$(printf '%s\n' "${logs[@]##*/}" | sort | uniq -d)" ] || fail "two logs have one name"
 export PYTHONDONTWRITEBYTECODE=1
 runs=$(python3 release/proved.py "$kit_folder" its_cli its_c@x86_64-unknown-linux-gnu \
-    its_c@aarch64-unknown-linux-gnu its_web@wasm64-unknown-unknown -- "${logs[@]}") ||
+    its_c@aarch64-unknown-linux-gnu its_web@x86_64-unknown-linux-gnu -- "${logs[@]}") ||
     fail "not all was proved"
 said=$("$program" version | head -n 2)
 [ "$said" = "its $version (Bacciledru)

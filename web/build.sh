@@ -1,17 +1,18 @@
 #!/bin/sh
-# web/build.sh [ARCHIVE]: web/its_web.wasm and web/index.html. ARCHIVE is the static library for wasm64, which
-# `rt lib --target wasm64-unknown-unknown` of crates/its_web proves and leaves as crates/its_web/out/libits_web.a; without
-# ARCHIVE it is made so. Wants the kit (its clang compiles the heap, and links) and python3.
+# web/build.sh [ARCHIVE]: web/its_web.wasm and web/index.html. ARCHIVE is the static library for wasm64. Without it
+# crates/its_web is proved by `rt lib`, in a toolchain whose clang keeps what rattle's back end hands to it, and that is
+# compiled for wasm64 (for_wasm.sh). Wants the kit (its clang compiles the heap, and links) and python3.
 set -eu
 web=$(cd "$(dirname "$0")" && pwd)
 kit=${KIT:-/opt/rattle}
 archive=${1:-}
-if [ -z "$archive" ]; then
-    (cd "$web/../crates/its_web" && PATH="$kit/bin:$PATH" rt lib --target wasm64-unknown-unknown)
-    archive=$web/../crates/its_web/out/libits_web.a
-fi
 work=$(mktemp -d)
 trap 'rm -rf "$work"' EXIT
+if [ -z "$archive" ]; then
+    python3 "$web/keep_module.py" "$kit" "$work/module.bc" "$web/../crates/its_web"
+    archive=$work/libits_web.a
+    "$web/for_wasm.sh" "$work/module.bc" "$archive"
+fi
 ln -s "$kit/toolchain/bin/clang" "$work/wasm-ld"
 "$kit/toolchain/bin/clang" --target=wasm64-unknown-unknown --no-default-config -std=c11 -Wall -Wextra -Werror -O2 \
     -mbulk-memory -fno-builtin -ffreestanding -c "$web/heap.c" -o "$work/heap.o"

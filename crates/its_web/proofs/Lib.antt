@@ -5,3 +5,4 @@ pub mod Opened
 pub mod Pending
 pub mod Said
 pub mod Puts
+pub mod Turning
