@@ -22,7 +22,7 @@ import subprocess
 import sys
 
 COUNT = 20_000
-SIGNALS = 200_000
+SIGNALS = 20_000
 BESIDE = ("beside-nothing", "beside-save", "beside-save-1024")
 EVENTS = (1024, 16_384, 65_536)
 LATENCIES = re.compile(r"\S+ p50 (\d+) p99 (\d+) p99\.9 (\d+) most (\d+) ns")
