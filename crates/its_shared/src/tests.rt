@@ -124,7 +124,7 @@ fn drive(pass: &mut Pass) -> (u32, u64) {
             concerned: [0; 8],
         };
         if its_pass_step(pass, &mut place, &mut step) == DONE && step.outcome == 1 {
-            ran += 1;
+            ran = ran.wrapping_add(1);
         }
     }
     (ran, place)
