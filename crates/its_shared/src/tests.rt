@@ -114,7 +114,7 @@ fn drive(pass: &mut Pass) -> (u32, u64) {
     for (offset, size, value) in &REGISTERS {
         its_pass_write_register(pass, *offset, *size, *value, &mut place);
     }
-    let mut ran = 0;
+    let mut ran: u32 = 0;
     for _ in 0..4u32 {
         let mut step = StepOut {
             outcome: 9,
