@@ -32,8 +32,8 @@ class Bare:
     QEMU's bus sends messages as device 0.
     """
 
-    def __init__(self, work, name, library, more=(), processors=1, record=False):
-        self.vm = Vm(work, name, library, processors=processors, memory=256, linux=False, nvme=False, disks=(),
+    def __init__(self, work, name, library, more=(), processors=1, record=False, memory=256):
+        self.vm = Vm(work, name, library, processors=processors, memory=memory, linux=False, nvme=False, disks=(),
                      more=[*more, "-S"], record=record)
         vm = self.vm
         self.place = 0
@@ -190,7 +190,7 @@ def without_linux(work, name, library):
     vm.deliver(False)
     for i in range(count):
         machine.signal(i)
-    vm, told = saving.moved_to(vm, work, name + "-1")
+    vm, told = saving.moved_to(vm, work, name + "-1", more=())
     machine.vm = vm
     vm.deliver(True)
     for i in range(count):

@@ -2,14 +2,12 @@
 import re
 import time
 
+from bare import TABLE, VALID, Bare, command
 from checks import LATENCY, alive, loaded, need, quiet, summary
 from saving import moved_to
-from vm import PATIENCE, Vm
+from vm import FIRMWARE, PATIENCE, Vm
 
 SIZE = 512 << 20
-# Two nodes: the last processor's has no memory before some is plugged in, and gets its tables there then.
-NODES = ("-object", "memory-backend-ram,id=first,size=512M", "-numa", "node,nodeid=0,memdev=first,cpus=0-2", "-numa",
-         "node,nodeid=1,cpus=3")
 
 
 def memory_of(vm):
@@ -17,17 +15,16 @@ def memory_of(vm):
 
 
 def plug(vm):
-    """The guest has more memory. Where it lies."""
-    vm.run("echo online >/sys/devices/system/memory/auto_online_blocks")
-    before = memory_of(vm)
+    """Memory is plugged in. Where it lies."""
     vm.qmp("object-add", **{"qom-type": "memory-backend-ram", "id": "more", "size": SIZE})
-    vm.qmp("device_add", driver="pc-dimm", id="dimm", memdev="more", node=1)
-    end = time.time() + 60 * PATIENCE
-    while memory_of(vm) < before + (SIZE >> 11):
-        need(time.time() < end, f"watchdog: the guest has {memory_of(vm)} kB, and had {before}")
-        time.sleep(0.5)
+    vm.qmp("device_add", driver="pc-dimm", id="dimm", memdev="more")
     dimm, = vm.qmp("query-memory-devices")
     return dimm["data"]["addr"]
+
+
+def dimm_words(base):
+    """Of a machine that has it from the begin, where the other had it."""
+    return ("-object", f"memory-backend-ram,id=more,size={SIZE}", "-device", f"pc-dimm,id=dimm,memdev=more,addr={base}")
 
 
 def tables_in(vm, base):
@@ -41,28 +38,46 @@ def tables_in(vm, base):
 
 
 def firmware(work, name, library):
-    """EDK2 and ACPI; memory plugged in while it runs, tables there, and a migration under load"""
-    vm = Vm(work, name + "-0", library, firmware=True, memory="512M,slots=1,maxmem=2G", more=NODES, nvme=False,
-            latency=LATENCY)
+    """EDK2 and ACPI; memory plugged in while it runs, and a migration under load"""
+    vm = Vm(work, name + "-0", library, firmware=True, memory="512M,slots=1,maxmem=2G", nvme=False, latency=LATENCY)
     _, seconds = vm.ready(600)
     said = vm.run("ls -d /sys/firmware/acpi/tables/APIC /sys/firmware/acpi/tables/IORT /proc/device-tree 2>&1")
     need(said.count("tables/") == 2, f"tables: {said}")
     alive(vm, 0)
-    base = plug(vm)
-    vm.run("fill")
-    vm.run("taskset -p 8 1; again virtio virtio_blk virtio; again virtio virtio_blk virtio; taskset -p f 1")
-    alive(vm, 32)
+    vm.run("echo online >/sys/devices/system/memory/auto_online_blocks")
+    had, base, end = memory_of(vm), plug(vm), time.time() + 60 * PATIENCE
+    while memory_of(vm) < had + (SIZE >> 11):
+        need(time.time() < end, f"watchdog: the guest has {memory_of(vm)} kB, and had {had}")
+        time.sleep(0.5)
+    for _ in range(4):
+        vm.run("again virtio virtio_blk virtio")
     loaded(vm)
-    dimm = ("-object", f"memory-backend-ram,id=more,size={SIZE}", "-device",
-            f"pc-dimm,id=dimm,memdev=more,node=1,addr={base:#x}")
     before = vm
-    vm, told = moved_to(vm, work, name + "-1", more=NODES + dimm)
+    vm, told = moved_to(vm, work, name + "-1", more=dimm_words(base))
     if library:
-        count = tables_in(before, base)
-        need(count, f"no table lies from {base:#x} on")
-        told += f", {count} tables in the memory that was plugged in"
+        told += f", {tables_in(before, base)} tables in that memory"
     vm.run("unload")
     alive(vm, 64)
     vm.run("move 8; work 96")
     quiet(vm)
     return vm, summary(vm, f", {seconds:.0f} s{told}")
+
+
+def tables(work, name, library):
+    """memory plugged in, tables there, and a migration with an LPI pending, without a Linux"""
+    machine = Bare(work, name + "-0", library, more=("-bios", FIRMWARE), memory="256M,slots=1,maxmem=2G", record=True)
+    vm = machine.vm
+    base = plug(vm)
+    machine.run([command(8, 0, 4, VALID | base), command(10, 0, 8192 << 32 | 3, 0),
+                 command(8, 1 << 32, 4, VALID | TABLE)])
+    machine.signal(3)
+    machine.comes(0, 1, 8192)
+    vm.deliver(False)
+    machine.signal(3)
+    machine.vm, told = moved_to(vm, work, name + "-1", more=("-bios", FIRMWARE, *dimm_words(base)))
+    if library:
+        need(tables_in(vm, base) == 1, "no table lies there")
+        need(machine.vm.load(base + 24) == 8192 << 16, f"saved: {machine.vm.load(base + 24):#x}")
+    machine.vm.deliver(True)
+    machine.comes(0, 2, 8192)
+    return machine.vm, f"a table at {base:#x}{told}"

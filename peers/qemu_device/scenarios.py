@@ -26,7 +26,7 @@ SCENARIOS = [working.boot, *FEW, working.many_processors, *KERNELS, working.brid
              working.processors, working.drivers, working.reset, saving.migration, saving.cancelled, saving.postcopy,
              saving.snapshot, saving.again, saving.foreign, saving.bad_tables, plugged.firmware, working.hibernation,
              working.suspend, working.kexec, bare.without_linux, bare.full_queue, bare.brief_commands,
-             bare.more_memory, bare.overlap]
+             bare.more_memory, plugged.tables, bare.overlap]
 LONG = [working.stress]
 
 

@@ -20,7 +20,7 @@ def boot(work, name, library):
 
 def many_processors(work, name, library):
     """64 processors, a disk of 64 queues"""
-    # QEMU counts instructions in place of time: else the ticks of 64 processors are more than a busy host's one can do.
+    # QEMU counts instructions in place of time: without that most boots on a busy host ended in soft lockups.
     vm = Vm(work, name, library, processors=64, memory=1024, disks=(None,), nvme=False, more=("-icount", "shift=0"))
     linux, seconds = vm.ready(900)
     some = (0, 17, 40, 63)
