@@ -11,8 +11,8 @@ use crate::step_calls::{
     its_pass_read_memory, its_pass_save, its_pass_step, its_pass_write_memory,
 };
 use its_numbers::{
-    AckOut, DONE, DescriptionIn, DmaOut, FillIn, HANDLE, NO_FAULT, OUTSIDE, RANGE, SaveFaultOut,
-    SignalOut, StepOut, WindowIn,
+    AckOut, DONE, DescriptionIn, DmaOut, FillIn, HANDLE, NO_FAULT, OUTSIDE, RANGE, RequestersIn,
+    SaveFaultOut, SignalOut, StepOut, WindowIn,
 };
 use std::alloc::Global;
 
@@ -44,6 +44,13 @@ const WINDOWS: [WindowIn; 1] = [WindowIn {
 
 // Its pending tables.
 const PENDING: [u64; 2] = [0x8004_0000, 0x8005_0000];
+
+// Requester 7 is device 7.
+const REQUESTERS: [RequestersIn; 1] = [RequestersIn {
+    first: 7,
+    last: 7,
+    device: 7,
+}];
 
 // LPI 8192 has priority 0xa0 and is enabled.
 const FILLS: [FillIn; 1] = [FillIn {
@@ -96,7 +103,7 @@ fn shared(alloc: Global, root: &mut Pass) -> u32 {
         &WINDOWS,
         &PENDING,
         &[],
-        &[],
+        &REQUESTERS,
         &FILLS,
         &[0xa1],
         &mut fault,
