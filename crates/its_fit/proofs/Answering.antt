@@ -53,17 +53,14 @@ so_if calls told u i k b call a is_call is_told d = (
 
 -- ---- after some calls
 
-pub so_after : (d : Desc) (calls : Phase) (told : Told) (log : List Made) (u : Plain) (i k : ℕ) (more : List Made) → IsAfter d calls log u
-    → IsAnsweredSo calls told.threads u i k → more ≡ log ++ made_at i k ∷ [] → Goes d calls told log i k more
-so_after d calls told log u i k more a so e = record {
-  so = λ v is. subst (λ (x : Plain). IsAnsweredSo calls told.threads x i k) (a.state ∙ ap (λ (x : Plain). played calls x log) (first_once d a.first v a.starts is)) so;
-  is_more = e;
-}
-
-pub not_after : (d : Desc) (calls : Phase) (told : Told) (log : List Made) (u : Plain) (i k : ℕ) (more : List Made) → IsAfter d calls log u
-    → (¬ IsAnsweredSo calls told.threads u i k) → ¬ Goes d calls told log i k more
-not_after d calls told log u i k more a other g =
-    other (subst (λ (x : Plain). IsAnsweredSo calls told.threads x i k) (sym a.state) (g.so a.first a.starts))
+pub always_so : (d : Desc) (calls : Phase) (told : Told) (log : List Made) (u : Plain) (i k : ℕ) (b : Bool) → IsAfter d calls log u
+    → Decides b (IsAnsweredSo calls told.threads u i k)
+    → Decides b ((first : Plain) → IsFirstState d first → IsAnsweredSo calls told.threads (played calls first log) i k)
+always_so d calls told log u i k b a is = (
+  λ e v starts.
+      subst (λ (x : Plain). IsAnsweredSo calls told.threads x i k) (a.state ∙ ap (λ (x : Plain). played calls x log) (first_once d a.first v a.starts starts)) (is.0 e),
+  λ always. is.1 (subst (λ (x : Plain). IsAnsweredSo calls told.threads x i k) (sym a.state) (always a.first a.starts)),
+)
 
 pub one_after : (d : Desc) (calls : Phase) (told : Told) (log : List Made) (i k : ℕ) (more other : List Made) → more ≡ log ++ made_at i k ∷ []
     → Goes d calls told log i k other → other ≡ more

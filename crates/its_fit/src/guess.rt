@@ -7,6 +7,7 @@ use its_history::reply_text;
 use its_plain::Call;
 use owned_machine::Machine;
 use std::alloc::{AllocError, Global};
+use std::mem::replace;
 
 /// How many calls may be tried, and how many of them made again on the way back.
 const MOST_TRIES: u64 = 4_000_000;
@@ -38,26 +39,10 @@ struct Walk {
 
 /// An order that may fit.
 pub fn guess(alloc: Global, recording: &Recording<'_>) -> Result<Option<Vec<usize>>, AllocError> {
-    let mut now = Walk::new(alloc, recording)?;
-    for _ in 0..MOST_TRIES {
-        match now.best(recording) {
-            Some(thread) => {
-                if !now.try_thread(alloc, recording, thread)? {
-                    return Ok(None);
-                }
-            }
-            None => {
-                if now.ends(alloc, recording)? {
-                    let order = now.order(alloc)?;
-                    return Ok(Some(order));
-                }
-                if !now.go_back() {
-                    return Ok(None);
-                }
-            }
-        }
-    }
-    Ok(None)
+    let mut walk = Walk::new(alloc, recording)?;
+    let found = walk.find(alloc, recording);
+    drop(walk);
+    found
 }
 
 impl Walk {
@@ -73,6 +58,33 @@ impl Walk {
             tried: 0,
             left: MOST_AGAIN,
         })
+    }
+
+    /// Goes on until an order is found, or no more may be tried.
+    fn find(
+        &mut self,
+        alloc: Global,
+        recording: &Recording<'_>,
+    ) -> Result<Option<Vec<usize>>, AllocError> {
+        for _ in 0..MOST_TRIES {
+            match self.best(recording) {
+                Some(thread) => {
+                    if !self.try_thread(alloc, recording, thread)? {
+                        return Ok(None);
+                    }
+                }
+                None => {
+                    if self.ends(alloc, recording)? {
+                        let order = self.order(alloc)?;
+                        return Ok(Some(order));
+                    }
+                    if !self.go_back() {
+                        return Ok(None);
+                    }
+                }
+            }
+        }
+        Ok(None)
     }
 
     /// The next call of a thread.
@@ -187,7 +199,8 @@ impl Walk {
         for step in &self.placed {
             log.push(step.made)?;
         }
-        self.machine = recording.machine_after(alloc, &log)?;
+        let next = recording.machine_after(alloc, &log)?;
+        drop(replace(&mut self.machine, next));
         self.is_spoiled = false;
         Ok(true)
     }

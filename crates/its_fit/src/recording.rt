@@ -2,6 +2,8 @@
 ghost use Rattle.std.specs.Prelude.{◌≡◌, ◌≤◌, ◌++◌, ◌∷◌, [], IfOk, length, option_map};
 ghost use Rattle.std.specs.Bool.{Decides};
 ghost use Rattle.its_plain.specs.Answer.{answer};
+ghost use Rattle.its_plain.specs.Described.{IsFirstState};
+ghost use Rattle.its_plain.specs.Plain.{Plain};
 ghost use Rattle.its_plain.specs.Sound.{IsShape};
 ghost use Rattle.its_history.specs.Texts.{answered_text};
 ghost use Rattle.trace_check.specs.Differences.{pending_texts};
@@ -71,6 +73,26 @@ impl<'a> Recording<'a> {
         let so = answers_so(alloc, machine, &call, &told.text)?;
         Ok(so)
     }
+
+    /// Whether a call that is made after some others is answered as it was.
+    fn goes_after(&self, alloc: Global, log: &[Made], made: Made) -> Result<bool, AllocError>
+        ensures { IfOk result (λ b. Decides b
+            ((first : Plain) → IsFirstState self.now.desc.now first →
+            spec.IsAnsweredSo self.now.calls.now self.now.told.now.threads
+            (spec.played self.now.calls.now first log.now) made.thread made.call)) }
+    {
+        let mut machine = self.machine_after(alloc, log)?;
+        match self.goes(alloc, &mut machine, made) {
+            Ok(goes) => {
+                drop(machine);
+                Ok(goes)
+            }
+            Err(error) => {
+                drop(machine);
+                Err(error)
+            }
+        }
+    }
 }
 
 /// Makes a call, and tells whether call and reply have this text.
@@ -130,8 +152,7 @@ impl<'a> Recorded<Listed<Made>> for Recording<'a> {
         call: usize,
     ) -> Result<Option<Listed<Made>>, AllocError> {
         let made = Made { thread, call };
-        let mut machine = self.machine_after(alloc, state.as_slice())?;
-        let goes = self.goes(alloc, &mut machine, made)?;
+        let goes = self.goes_after(alloc, state.as_slice(), made)?;
         if !goes {
             return Ok(None);
         }
@@ -140,7 +161,15 @@ impl<'a> Recorded<Listed<Made>> for Recording<'a> {
 
     fn ends(&self, alloc: Global, state: &Listed<Made>) -> Result<bool, AllocError> {
         let machine = self.machine_after(alloc, state.as_slice())?;
-        let ends = is_pending(alloc, &machine, self.told.pending.as_slice())?;
-        Ok(ends)
+        match is_pending(alloc, &machine, self.told.pending.as_slice()) {
+            Ok(ends) => {
+                drop(machine);
+                Ok(ends)
+            }
+            Err(error) => {
+                drop(machine);
+                Err(error)
+            }
+        }
     }
 }

@@ -115,6 +115,7 @@ fn confirmed(
     };
     let machine = remade(alloc, recording.desc)?;
     if told.pending.len() != machine.vcpus() {
+        drop(machine);
         return Ok(None);
     }
     match check(alloc, machine, legs, &[], &trace)? {
