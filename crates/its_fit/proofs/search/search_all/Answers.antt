@@ -28,8 +28,8 @@ returns-in-Nowhere-clause-reached c =
     rw c.in-Nowhere.is at c.in_ok-order.ensures.reached in
     reached_by r.desc.now r.calls.now r.told.now c.deref.result.now c.new-none.result c.in-Nowhere.reached.items spans c.new-none.ensures at
 
-pub returns-in-None-clause-unconfirmed : goal.returns-in-None-clause-unconfirmed
-returns-in-None-clause-unconfirmed c =
+pub returns-in-Fits-clause-unconfirmed : goal.returns-in-Fits-clause-unconfirmed
+returns-in-Fits-clause-unconfirmed c =
     let r = c.args.recording.now in
     let spans : c.deref.result.now ≡ spans_of r.told.now.threads = c.deref.ensures.value ∙ c.in_ok-spans.ensures ∙ ap spans_of c.as_slice.ensures in
     let fits : Fits (Goes r.desc.now r.calls.now r.told.now) (IsEnd r.desc.now r.calls.now r.told.now) c.deref.result.now (start c.deref.result.now)
