@@ -12,6 +12,7 @@ ghost use Rattle.script_gen.specs.Laws.{IsAsked};
 
 use crate::check::say_check;
 use crate::explain::explain;
+use crate::fit::say_fit;
 use crate::legs::Ending;
 use crate::say::say;
 use crate::status::Status;
@@ -103,6 +104,7 @@ fn answer_words<R: Threads + Wait + Sync, S: Source, G: Gate + Sync>(
         Ok(Asked::Run) => run_command(rt, alloc, gate, source, report),
         Ok(Asked::Check) => check_command(alloc, source),
         Ok(Asked::Gen { signals, threads }) => gen_command(rt, alloc, gate, signals, threads),
+        Ok(Asked::Fit { calls }) => fit_command(alloc, source, calls.into()),
         Ok(Asked::Explain) => explain_command(rt, alloc, gate, source),
         Ok(Asked::Help) => Answer::Helped,
         Ok(Asked::Version) => Answer::Versioned,
@@ -153,6 +155,20 @@ fn check_command<S: Source>(alloc: Global, source: &mut S) -> Answer
     };
     match say_check(alloc, &input) {
         Ok(checked) => Answer::Answered(checked),
+        Err(AllocError) => Answer::Refused(Status::Memory),
+    }
+}
+
+// What the source says, fitted.
+fn fit_command<S: Source>(alloc: Global, source: &mut S, bound: u64) -> Answer {
+    let input = match read_all(alloc, source, LIMIT) {
+        Ok(input) => input,
+        Err(ReadAllError::Memory) => return Answer::Refused(Status::Memory),
+        Err(ReadAllError::Failed) => return Answer::Refused(Status::ReadFault),
+        Err(ReadAllError::TooLong) => return Answer::Refused(Status::TooLong),
+    };
+    match say_fit(alloc, &input, bound) {
+        Ok(fitted) => Answer::Answered(fitted),
         Err(AllocError) => Answer::Refused(Status::Memory),
     }
 }

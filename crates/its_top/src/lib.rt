@@ -5,6 +5,7 @@
 mod check;
 mod command;
 mod explain;
+mod fit;
 mod legs;
 mod moves;
 mod play;

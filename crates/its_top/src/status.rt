@@ -26,4 +26,6 @@ pub enum Status {
     TraceDiffers = 10,
     /// What follows the script is no report.
     BadTrace = 11,
+    /// Some calls were tried, and no more may be.
+    Undecided = 12,
 }

@@ -2,7 +2,7 @@
 ghost use Rattle.std.specs.Prelude.{◌≡◌, IfOk, codes, false};
 ghost use Rattle.clap.specs.Words.{app_of, rule_of};
 ghost use Rattle.clap.specs.declared.Command.TheViews.{out-Command};
-ghost use Rattle.its_words.specs.Command.{its_app, running_app, gen_app, needed_rule};
+ghost use Rattle.its_words.specs.Command.{its_app, running_app, gen_app, fit_app, needed_rule};
 
 use clap::{Arg, ArgAction, Command};
 use std::alloc::{AllocError, Global};
@@ -14,7 +14,9 @@ pub fn its_command<'a>(alloc: Global) -> Result<Command<'a>, AllocError>
     let explain = Command::new(alloc, "explain");
     let help = Command::new(alloc, "help");
     let version = Command::new(alloc, "version");
+    let fit = fit_command(alloc)?;
     running_command(alloc)?
+        .subcommand(fit)?
         .subcommand(explain)?
         .subcommand(help)?
         .subcommand(version)
@@ -44,6 +46,15 @@ fn gen_command<'a>(alloc: Global) -> Result<Command<'a>, AllocError>
     let signals = needed(alloc, "signals");
     let threads = needed(alloc, "threads");
     Command::new(alloc, "gen").arg(signals)?.arg(threads)
+}
+
+// `fit` with a number that may be left out.
+fn fit_command<'a>(alloc: Global) -> Result<Command<'a>, AllocError>
+    ensures app { IfOk result (λ c. app_of c ≡ fit_app) }
+    ensures local { IfOk result (λ c. (out-Command c).has_globals ≡ false) }
+{
+    let calls = Arg::new(alloc, "calls").action(ArgAction::Set);
+    Command::new(alloc, "fit").arg(calls)
 }
 
 // An argument that has to be there.
