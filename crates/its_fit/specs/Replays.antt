@@ -1,8 +1,12 @@
 -- Calls that are made again, and what a search for an order is told of them.
-use Rattle.std.specs.Prelude.{◌≡◌, ℕ, List, [], ◌∷◌, ◌++◌, slice_get, slice_index_or, Option, Some, None}
+use Rattle.std.specs.Prelude.{◌≡◌, ℕ, List, [], ◌∷◌, ◌++◌, length, slice_get, slice_index_or, Option, Some, None}
 use Rattle.its_plain.specs.Plain.{Plain}
 use Rattle.its_plain.specs.Answer.{answer}
+use Rattle.its_plain.specs.Described.{IsFirstState}
 use Rattle.its_plain.specs.Runs.{Phase}
+use Rattle.its_plain.specs.declared.desc.Desc.{Desc}
+use Rattle.its_plain.specs.declared.desc.LpiTables.{LpiTables}
+use Rattle.its_plain.specs.declared.desc.LpiTables.TheVariants.{Described, Registers}
 use Rattle.its_plain.specs.declared.call.Call.{Call}
 use Rattle.its_history.specs.Texts.{answered_text}
 use Rattle.trace_check.specs.Differences.{pending_texts}
@@ -39,11 +43,22 @@ pub record IsAnsweredSo (calls : Phase) (told : List (List Answered)) (u : Plain
   pub is_told : told_at told i k ≡ Some answered
   pub so : answered.text ≡ answered_text call (answer u call).0
 
--- after some calls a call is answered as it was, and it comes after them
-pub record Goes (first : Plain) (calls : Phase) (told : Told) (log : List Made) (i k : ℕ) (more : List Made) : Type 0 where
-  pub so : IsAnsweredSo calls told.threads (played calls first log) i k
+-- the machine of a description after some calls
+pub record IsAfter (d : Desc) (calls : Phase) (log : List Made) (u : Plain) : Type 0 where
+  pub first : Plain
+  pub starts : IsFirstState d first
+  pub state : u ≡ played calls first log
+
+-- after some calls on the machine of a description a call is answered as it was, and it comes after them
+pub record Goes (d : Desc) (calls : Phase) (told : Told) (log : List Made) (i k : ℕ) (more : List Made) : Type 0 where
+  pub so : (first : Plain) → IsFirstState d first → IsAnsweredSo calls told.threads (played calls first log) i k
   pub is_more : more ≡ log ++ made_at i k ∷ []
 
 -- after some calls just that is pending which is told
-abbrev pub IsEnd : Plain → Phase → Told → List Made → Type 0
-IsEnd first calls told log = told.pending ≡ pending_texts (played calls first log)
+abbrev pub IsEnd : Desc → Phase → Told → List Made → Type 0
+IsEnd d calls told log = (first : Plain) → IsFirstState d first → told.pending ≡ pending_texts (played calls first log)
+
+-- for how many virtual processors a description has tables
+abbrev pub table_count : LpiTables → ℕ
+table_count (Described config pending) = length pending
+table_count (Registers values) = length values.registers

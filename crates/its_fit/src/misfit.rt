@@ -1,7 +1,8 @@
 //! What is said where no history explains what threads were answered.
 use crate::recording::{Recording, told_at};
 use crate::replay::{Made, call_at};
-use crate::trail::{front_of, numbered};
+use crate::trail::follow;
+use crate::told::Answered;
 use its_history::{answered_text, pending_text};
 use its_types::Listed;
 use owned_machine::Machine;
@@ -27,26 +28,35 @@ fn push_reached(
     reached: &[usize],
 ) -> Result<(), AllocError> {
     let told = recording.told.threads.as_slice();
-    let Some(calls) = numbered(alloc, told, reached)? else {
+    let Some(trail) = follow(alloc, told, reached)? else {
         return Ok(());
     };
-    for (place, made) in calls.iter().enumerate() {
-        if let Some(answered) = told_at(told, *made) {
-            let text = answered.text.as_str();
-            writeln!(out, "{place} 1.{} {text}", thread_number(*made))?;
-        }
-    }
-    let front = front_of(alloc, told.len(), reached)?;
+    push_calls(out, told, &trail.calls)?;
+    let front = trail.front.as_slice();
     let mut is_whole = true;
     for (thread, call) in front.iter().enumerate() {
         let made = Made { thread, call: *call };
         if told_at(told, made).is_some() {
             is_whole = false;
-            push_next(alloc, out, recording, &calls, &front, made)?;
+            push_next(alloc, out, recording, &trail.calls, front, made)?;
         }
     }
     if is_whole {
-        push_pending(alloc, out, recording, &calls)?;
+        push_pending(alloc, out, recording, &trail.calls)?;
+    }
+    Ok(())
+}
+
+fn push_calls(
+    out: &mut String,
+    told: &[Listed<Answered>],
+    calls: &[Made],
+) -> Result<(), AllocError> {
+    for (place, made) in calls.iter().enumerate() {
+        if let Some(answered) = told_at(told, *made) {
+            let text = answered.text.as_str();
+            writeln!(out, "{place} 1.{} {text}", thread_number(*made))?;
+        }
     }
     Ok(())
 }

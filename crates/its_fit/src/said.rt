@@ -49,7 +49,11 @@ fn answer_script(
     bound: u64,
 ) -> Result<Outcome, AllocError> {
     match Machine::new(alloc, &script.desc) {
-        Ok(machine) => answer_told(alloc, &script, &machine, report, bound),
+        Ok(machine) => {
+            let vcpus = machine.vcpus();
+            drop(machine);
+            answer_told(alloc, &script, vcpus, report, bound)
+        }
         Err(MakeError::NoMemory) => Err(AllocError),
         Err(MakeError::Fault(fault)) => Ok(Outcome::NoMachine(script, fault)),
     }
@@ -58,7 +62,7 @@ fn answer_script(
 fn answer_told(
     alloc: Global,
     script: &Script,
-    first: &Machine,
+    vcpus: usize,
     report: &[u8],
     bound: u64,
 ) -> Result<Outcome, AllocError> {
@@ -70,7 +74,7 @@ fn answer_told(
         return Ok(Outcome::ManyPhases);
     };
     let calls = phase.as_slice();
-    let told = match read_told(alloc, report, calls.len(), first.vcpus()) {
+    let told = match read_told(alloc, report, calls.len(), vcpus) {
         Ok(told) => told,
         Err(ToldError::BadLine(number)) => return Ok(Outcome::BadLine(number)),
         Err(ToldError::NoMemory) => return Err(AllocError),
@@ -78,7 +82,11 @@ fn answer_told(
     if let Some(thread) = uneven(calls, &told) {
         return Ok(Outcome::Uneven(thread));
     }
-    let recording = Recording { desc: &script.desc, first, calls, told: &told };
+    let recording = Recording {
+        desc: &script.desc,
+        calls,
+        told: &told,
+    };
     match fit(alloc, &recording, legs, bound)? {
         Verdict::Fits(trace) => {
             let mut text = String::from_str(alloc, "fits\n")?;

@@ -1,11 +1,14 @@
 //! Whether a history explains what threads were answered.
+ghost use Rattle.std.specs.Prelude.{◌≡◌, ◌∷◌, [], IfOk, IfSome, length};
+ghost use Rattle.its_fit.specs.Verdicts.{IfFits, IfNowhere, IfUndecided, IsFit, IsMisfit};
+
 use crate::guess::guess;
 use crate::lines::trace_of;
 use crate::recording::Recording;
 use crate::replay::{Made, remade};
 use crate::told::spans;
-use crate::trail::{agrees_with_times, numbered};
-use event_script::{Leg, Move};
+use crate::trail::ordered;
+use event_script::Leg;
 use front_search::{Outcome, find_order};
 use its_history::Trace;
 use its_types::Listed;
@@ -23,13 +26,21 @@ pub enum Verdict {
     Undecided(u64),
 }
 
-/// Looks for a history that explains what threads were answered, and tries at most so many calls.
+/// Looks for a history that explains what threads were answered, and tries at most so many calls
+/// once a guess has failed. The leg is that of the recording.
 pub fn fit(
     alloc: Global,
     recording: &Recording<'_>,
     legs: &[Leg],
     bound: u64,
-) -> Result<Verdict, AllocError> {
+) -> Result<Verdict, AllocError>
+    requires { legs.now ≡ (recording.now.calls.now ∷ []) ∷ [] }
+    ensures fits { IfOk result (λ v. IfFits v (IsFit recording.now.desc.now
+        recording.now.calls.now recording.now.told.now)) }
+    ensures nowhere { IfOk result (λ v. IfNowhere v (IsMisfit recording.now.desc.now
+        recording.now.calls.now recording.now.told.now)) }
+    ensures undecided { IfOk result (λ v. IfUndecided v (λ tried. tried ≡ bound)) }
+{
     if let Some(order) = guess(alloc, recording)? {
         if let Some(trace) = confirmed(alloc, recording, legs, &order)? {
             return Ok(Verdict::Fits(trace));
@@ -38,12 +49,20 @@ pub fn fit(
     search_all(alloc, recording, legs, bound)
 }
 
+/// The same without a guess. An order that is found is confirmed before it is told.
 fn search_all(
     alloc: Global,
     recording: &Recording<'_>,
     legs: &[Leg],
     bound: u64,
-) -> Result<Verdict, AllocError> {
+) -> Result<Verdict, AllocError>
+    requires { legs.now ≡ (recording.now.calls.now ∷ []) ∷ [] }
+    ensures fits { IfOk result (λ v. IfFits v (IsFit recording.now.desc.now
+        recording.now.calls.now recording.now.told.now)) }
+    ensures nowhere { IfOk result (λ v. IfNowhere v (IsMisfit recording.now.desc.now
+        recording.now.calls.now recording.now.told.now)) }
+    ensures undecided { IfOk result (λ v. IfUndecided v (λ tried. tried ≡ bound)) }
+{
     let spans = spans(alloc, recording.told.threads.as_slice())?;
     let none: Listed<Made> = Listed::new(alloc);
     match find_order(alloc, recording, none, &spans, bound)? {
@@ -56,24 +75,29 @@ fn search_all(
     }
 }
 
-/// The report of an order, if it is that of a run and agrees with the times.
+/// The report of an order, if it explains what the threads were answered.
 fn confirmed(
     alloc: Global,
     recording: &Recording<'_>,
     legs: &[Leg],
     order: &[usize],
-) -> Result<Option<Trace>, AllocError> {
-    let told = recording.told.threads.as_slice();
-    let Some(calls) = numbered(alloc, told, order)? else {
+) -> Result<Option<Trace>, AllocError>
+    requires { legs.now ≡ (recording.now.calls.now ∷ []) ∷ [] }
+    ensures { IfOk result (λ o. IfSome o (λ t. IsFit recording.now.desc.now
+        recording.now.calls.now recording.now.told.now t.legs)) }
+{
+    let told = recording.told;
+    let Some(calls) = ordered(alloc, told.threads.as_slice(), order)? else {
         return Ok(None);
     };
-    if !agrees_with_times(told, &calls) {
+    let Some(trace) = trace_of(alloc, told, &calls)? else {
+        return Ok(None);
+    };
+    let machine = remade(alloc, recording.desc)?;
+    if told.pending.len() != machine.vcpus() {
         return Ok(None);
     }
-    let trace = trace_of(alloc, recording.told, &calls)?;
-    let machine = remade(alloc, recording.desc, recording.first)?;
-    let moves: &[Move] = &[];
-    match check(alloc, machine, legs, moves, &trace)? {
+    match check(alloc, machine, legs, &[], &trace)? {
         Checked::Agrees => Ok(Some(trace)),
         Checked::Differs(_) => Ok(None),
     }

@@ -1,4 +1,6 @@
 //! What threads were answered, and when.
+ghost use Rattle.std.specs.Prelude.{◌≡◌, IfOk, map};
+
 use front_search::Span;
 use its_history::Text;
 use its_types::Listed;
@@ -26,7 +28,9 @@ pub struct Told {
 pub fn spans(
     alloc: Global,
     threads: &[Listed<Answered>],
-) -> Result<Vec<Listed<Span>>, AllocError> {
+) -> Result<Vec<Listed<Span>>, AllocError>
+    ensures { IfOk result (λ all. all.items ≡ map (λ calls. map (λ a. a.span) calls) threads.now) }
+{
     let mut all = Vec::new(alloc);
     for calls in threads {
         let spans = spans_of(alloc, calls.as_slice())?;
@@ -35,10 +39,12 @@ pub fn spans(
     Ok(all)
 }
 
-fn spans_of(alloc: Global, calls: &[Answered]) -> Result<Listed<Span>, AllocError> {
-    let mut spans = Listed::new(alloc);
+fn spans_of(alloc: Global, calls: &[Answered]) -> Result<Listed<Span>, AllocError>
+    ensures { IfOk result (λ spans. spans ≡ map (λ a. a.span) calls.now) }
+{
+    let mut spans = Vec::new(alloc);
     for call in calls {
         spans.push(call.span)?;
     }
-    Ok(spans)
+    Ok(Listed::from_vec(spans))
 }

@@ -2,5 +2,5 @@ use Rattle.std.proofs.Common.{◌≡◌}
 use Rattle.its_fit.specs.Replays.{played}
 use Rattle.its_fit.proofs.replay.replay.Given as goal
 
-abbrev pub invariant-loop : goal.invariant-loop
-invariant-loop l = played l.calls l.machine l.rest ≡ played l.calls l.fn.machine l.fn.log
+abbrev pub invariant-loop-rest : goal.invariant-loop-rest
+invariant-loop-rest l = played l.calls l.machine l.rest ≡ played l.calls l.fn.machine l.fn.log
