@@ -62,8 +62,8 @@ so_after d calls told log u i k more a so e = record {
 
 pub not_after : (d : Desc) (calls : Phase) (told : Told) (log : List Made) (u : Plain) (i k : ℕ) (more : List Made) → IsAfter d calls log u
     → (¬ IsAnsweredSo calls told.threads u i k) → ¬ Goes d calls told log i k more
-not_after d calls told log u i k more a no g =
-    no (subst (λ (x : Plain). IsAnsweredSo calls told.threads x i k) (sym a.state) (g.so a.first a.starts))
+not_after d calls told log u i k more a other g =
+    other (subst (λ (x : Plain). IsAnsweredSo calls told.threads x i k) (sym a.state) (g.so a.first a.starts))
 
 pub one_after : (d : Desc) (calls : Phase) (told : Told) (log : List Made) (i k : ℕ) (more other : List Made) → more ≡ log ++ made_at i k ∷ []
     → Goes d calls told log i k other → other ≡ more
@@ -78,9 +78,9 @@ ends_after d calls told log u b a is = (
 
 -- ---- what is pending
 
-behind : {A : Type 0} (front : List A) (a b : A) (as bs : List A) → front ++ a ∷ as ≡ front ++ b ∷ bs → a ≡ b
-behind [] a b as bs e = head_is e
-behind (x ∷ front) a b as bs e = behind front a b as bs (tail_is e)
+behind : {A : Type 0} (front : List A) (a b : A) (xs ys : List A) → front ++ a ∷ xs ≡ front ++ b ∷ ys → a ≡ b
+behind [] a b xs ys e = head_is e
+behind (x ∷ front) a b xs ys e = behind front a b xs ys (tail_is e)
 
 pub is_other : (u : Plain) (told : List (List ℕ)) (said is : List ℕ) → IsOtherPending u told said is → Decides false (told ≡ pending_texts u)
 is_other u told said is o = (

@@ -73,7 +73,8 @@ impl<'a> Recording<'a> {
         let Some(told) = told_at(self.told.threads.as_slice(), made) else {
             return Ok(false);
         };
-        answers_so(alloc, machine, &call, &told.text)
+        let so = answers_so(alloc, machine, &call, &told.text)?;
+        Ok(so)
     }
 }
 
@@ -144,6 +145,7 @@ impl<'a> Recorded<Listed<Made>> for Recording<'a> {
 
     fn ends(&self, alloc: Global, state: &Listed<Made>) -> Result<bool, AllocError> {
         let machine = self.machine_after(alloc, state.as_slice())?;
-        is_pending(alloc, &machine, self.told.pending.as_slice())
+        let ends = is_pending(alloc, &machine, self.told.pending.as_slice())?;
+        Ok(ends)
     }
 }

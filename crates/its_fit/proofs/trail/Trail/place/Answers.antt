@@ -10,4 +10,4 @@ returns c =
     let lt : c.args.thread < length self.front.items = omega (arith, c.if-thread-len.false, c.len.ensures) in
     let told : told_at c.args.told.now c.args.thread n ≡ Some c.in-Some.answered.now = sym c.told_at.ensures ∙ ap (option_map (λ a. a.now)) c.in-Some.is in
     λ e. more_at c.args.told.now self.calls.items self.front.items self.latest c.args.thread c.later_of-latest.result n c.in-Some.answered.now c.push.new.self.items
-    c.requires lt c.index-call.ensures told c.later_of-latest.ensures.first c.later_of-latest.ensures.second (omega (arith, c.if-latest-span.false)) c.push.ensures.items
+    c.requires lt c.index-call.ensures told c.later_of-latest.ensures.first c.later_of-latest.ensures.second (omega (arith, c.if-latest-span.false)) c.in_ok-push.ensures.items

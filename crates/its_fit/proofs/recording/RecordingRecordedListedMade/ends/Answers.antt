@@ -1,0 +1,12 @@
+use Rattle.std.proofs.Common.{◌≡◌, ◌∙◌, List, sym, ap, subst}
+use Rattle.its_fit.specs.Replays.{IsAfter}
+use Rattle.its_fit.specs.declared.replay.Made.{Made}
+use Rattle.its_fit.proofs.Answering.{ends_after}
+use Rattle.its_fit.proofs.recording.RecordingRecordedListedMade.ends.Goals as goal
+
+pub returns : goal.returns
+returns c =
+    let self = c.args.self.now in let m = c.in_ok-machine.machine in
+    let here : IsAfter self.desc.now self.calls.now c.args.state.now m = subst (λ (log : List Made). IsAfter self.desc.now self.calls.now log m) c.as_slice.ensures
+    c.in_ok-machine.ensures in
+    ends_after self.desc.now self.calls.now self.told.now c.args.state.now m c.in_ok-ends.ends here c.in_ok-ends.ensures
