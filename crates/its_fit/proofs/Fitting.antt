@@ -115,11 +115,11 @@ module _ (d : Desc) (first : Plain) (starts : IsFirstState d first) (calls : Pha
 
   module _ (f : Front) (log : List Made) (u : Plain) (e : Entry) (h : List Entry) (l : Line) (lines : List Line) (n : ℕ)
       (a : Ahead f log u (e ∷ h) (l ∷ lines) n) where
-    i : ℕ
+    abbrev i : ℕ
     i = l.0
 
-    k : ℕ
-    k = placed f i
+    abbrev k : ℕ
+    k = placed f l.0
 
     in_told : i < length told.threads
     in_told = a.known.0
@@ -152,8 +152,8 @@ module _ (d : Desc) (first : Plain) (starts : IsFirstState d first) (calls : Pha
     is_told : told_at told.threads i k ≡ Some l.1
     is_told = left_head (told_by told.threads i) k l.1 (lines_by i lines) told_next
 
-    log' : List Made
-    log' = log ++ made_at i k ∷ []
+    abbrev log' : List Made
+    log' = log ++ made_at l.0 (placed f l.0) ∷ []
 
     so : IsAnsweredSo calls told.threads (played calls first log) i k
     so = record {

@@ -52,3 +52,11 @@ one_more threads all entries m rest entry is x = go x.lines x.are_lines x.same
           ∙ append_assoc entries (entry ∷ []) (entries_from (suc (length entries)) lines)
           ∙ ap (λ (z : List EntryLine). entries ++ (z ++ entries_from (suc (length entries)) lines)) (is l (names.0, names.1, tt)) ∙ e;
     }
+
+pub all_left : (threads : List (List Answered)) (all : List Line) (entries : List EntryLine) (rest : List Made) → entries ≡ [] → AreLinesOf threads rest all
+    → Left threads all entries rest
+all_left threads all entries rest none names = record {
+  lines = all;
+  are_lines = names;
+  same = ap (λ (x : List EntryLine). x ++ entries_from (length x) all) none;
+}

@@ -1,8 +1,19 @@
-use Rattle.std.proofs.Common.{◌≡◌, ◌∙◌, List, sym, ap, subst}
-use Rattle.its_fit.proofs.Fitting.{none_explains}
+use Rattle.std.proofs.Common.{◌≡◌, ◌∙◌, List, [], sym, ap, subst}
+use Rattle.front_search.specs.Fronts.{Threads}
+use Rattle.front_search.specs.Trails.{NoneFits}
+use Rattle.its_fit.specs.Replays.{Goes, IsEnd}
+use Rattle.its_fit.specs.declared.replay.Made.{Made}
+use Rattle.its_fit.proofs.Fitting.{none_explains, spans_of}
 use Rattle.its_fit.proofs.search.search_all.Goals as goal
 
 pub returns-in-Nowhere-clause-nowhere : goal.returns-in-Nowhere-clause-nowhere
 returns-in-Nowhere-clause-nowhere c =
     let r = c.args.recording.now in
-    λ first lines starts. none_explains r.desc.now first starts r.calls.now r.told.now lines ?
+    let spans : c.deref.result.now ≡ spans_of r.told.now.threads = c.deref.ensures.value ∙ c.in_ok-spans.ensures ∙ ap spans_of c.as_slice.ensures in
+    let none : NoneFits (Goes r.desc.now r.calls.now r.told.now) (IsEnd r.desc.now r.calls.now r.told.now) c.deref.result.now c.new-none.result =
+    rw c.in-Nowhere.is at c.in_ok-order.ensures.nowhere in
+    let from : NoneFits (Goes r.desc.now r.calls.now r.told.now) (IsEnd r.desc.now r.calls.now r.told.now) (spans_of r.told.now.threads) [] =
+    subst (λ (t : Threads). NoneFits (Goes r.desc.now r.calls.now r.told.now) (IsEnd r.desc.now r.calls.now r.told.now) t []) spans
+    (subst (λ (log : List Made). NoneFits (Goes r.desc.now r.calls.now r.told.now) (IsEnd r.desc.now r.calls.now r.told.now) c.deref.result.now log)
+    c.new-none.ensures none) in
+    λ first lines starts. none_explains r.desc.now first starts r.calls.now r.told.now lines from
