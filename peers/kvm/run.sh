@@ -68,7 +68,7 @@ fetch() {
 }
 
 build() {
-    aarch64-linux-gnu-gcc -O1 -Wall -Wextra -static -o "$1/init" "$here/machine.c" "$here/player.c" "$here/guest.S"
+    aarch64-linux-gnu-gcc -O1 -Wall -Wextra -static -o "$1/init" "$here"/{machine,player,threads}.c "$here/guest.S"
 }
 
 case "${1:-}" in
