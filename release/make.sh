@@ -1,15 +1,16 @@
 #!/usr/bin/env bash
 # Packs a release into two archives, for x86_64 and for aarch64. Each has the library with its header, the
-# monitors, pages, examples, manual pages, what it was made from, and the checksums of all; that for x86_64
-# has the program too. The same files make the same archives, byte for byte.
+# monitors, pages, examples, manual pages, the page that runs scripts, what it was made from, and the checksums
+# of all; that for x86_64 has the program too. The same files make the same archives, byte for byte.
 #
 # usage: release/make.sh LIBRARY_AARCH64 LOG..
 #
 # LIBRARY_AARCH64 is the libits_c.a that `rt lib --target aarch64-unknown-linux-gnu` made. The logs are what the runs
-# printed that proved this commit: `.ci/run`, or `rt ci its_cli its_c`, which proves and tries those and all that they
-# stand on, and both `rt lib`. Each crate that is linked has to be in one (proved.py); that they are of this commit is
-# for the caller to know. The program is what the gate leaves in crates/its_cli/out, the library for x86_64 what
-# `rt lib` leaves in crates/its_c/out; PROGRAM and LIBRARY in the environment name other files. The version is the first
+# printed that proved this commit: `.ci/run`, or `rt ci its_cli its_c its_web`, which proves and tries those and all that
+# they stand on, and three `rt lib`: two of its_c, and that of its_web for wasm64-unknown-unknown. Each crate that is
+# linked has to be in one (proved.py); that they are of this commit is for the caller to know. The program is what the
+# gate leaves in crates/its_cli/out, the library for x86_64 what `rt lib` leaves in crates/its_c/out, the page what
+# web/build.sh makes; PROGRAM, LIBRARY and PAGE in the environment name other files. The version is the first
 # of CHANGELOG.md. The archives are FOLDER/bacciledru-VERSION-PROCESSOR.tar.gz, in release/out without a FOLDER.
 set -euo pipefail
 export LC_ALL=C TZ=UTC
@@ -29,9 +30,10 @@ mapfile -t logs < <(realpath -m -- "${@:2}")
 folder=$(realpath -m "${FOLDER:-$(dirname "$0")/out}")
 program=$(realpath -m "${PROGRAM:-$(dirname "$0")/../crates/its_cli/out/its_cli}")
 library_x86_64=$(realpath -m "${LIBRARY:-$(dirname "$0")/../crates/its_c/out/libits_c.a}")
+page=$(realpath -m "${PAGE:-$(dirname "$0")/../web/index.html}")
 cd "$(dirname "$0")/.."
 
-for file in "$program" "$library_x86_64" "$library_aarch64" "${logs[@]}"; do
+for file in "$program" "$library_x86_64" "$library_aarch64" "$page" "${logs[@]}"; do
     [ -f "$file" ] || fail "there is no $file"
 done
 [ -z "$(git status --porcelain)" ] || fail "the clone has changes that aren't committed"
@@ -43,7 +45,7 @@ commit=$(git rev-parse HEAD)
 [ -z "$(printf '%s\n' "${logs[@]##*/}" | sort | uniq -d)" ] || fail "two logs have one name"
 export PYTHONDONTWRITEBYTECODE=1
 runs=$(python3 release/proved.py "$kit_folder" its_cli its_c@x86_64-unknown-linux-gnu \
-    its_c@aarch64-unknown-linux-gnu -- "${logs[@]}") ||
+    its_c@aarch64-unknown-linux-gnu its_web@wasm64-unknown-unknown -- "${logs[@]}") ||
     fail "not all was proved"
 said=$("$program" version | head -n 2)
 [ "$said" = "its $version (Bacciledru)
@@ -67,12 +69,14 @@ copied() {
     done
 }
 
-# What both archives have: the folder, the processor, the library, what is linked as `materials.py` takes it.
+# What both archives have: the folder, the processor, the library, what is linked as `materials.py` takes it, with
+# the page.
 filled() {
     local to=$1 processor=$2 library=$3 packages=$4
     shift 4
     mkdir -p "$to"
     install -m 644 "$library" "$to/libits_c.a"
+    install -m 644 "$page" "$to/page.html"
     install -D -m 644 -t "$to/logs" "${logs[@]}"
     copied "$to" include/its.h LICENSE-MIT LICENSE-APACHE CHANGELOG.md examples/README.md examples/compare.sh \
         'examples/*.its' 'examples/*.report' examples/variations examples/monitor \
@@ -80,7 +84,7 @@ filled() {
     (cd "$to/examples/monitor" && rm README.md run.sh check_header.py)
     printf 'bacciledru %s\nprocessor %s\ncommit %s\nkit %s\n%s\n' \
         "$version" "$processor" "$commit" "$kit" "$runs" >"$to/VERSION"
-    python3 release/materials.py "$kit_folder" "$to/licenses" "$@" >"$to/MATERIALS"
+    python3 release/materials.py "$kit_folder" "$to/licenses" "$@" its_web=page.html >"$to/MATERIALS"
     python3 release/pages.py "$to" "$processor" "version=$version" "target=$processor" "packages=$packages" \
         "kit=$kit" "commit=$commit" "date=$(git log -1 --format=%cd --date=format-local:%Y-%m-%d)"
 }
@@ -103,9 +107,9 @@ name=bacciledru-$version-x86_64
 install -D -m 755 "$program" "$work/$name/its"
 filled "$work/$name" x86_64 "$library_x86_64" "gcc, libc6-dev and man-db" its_cli=its its_c=libits_c.a
 (cd "$kit_folder/c" && sha256sum libos_c.a liblibc_c.a) |
-    while read -r sum file; do printf '%-18s%-12s%-18s%s\n' "$file" kit its "$sum"; done >>"$work/$name/MATERIALS"
+    while read -r sum file; do printf '%-18s%-12s%-28s%s\n' "$file" kit its "$sum"; done >>"$work/$name/MATERIALS"
 readelf -d "$program" | sed -nE 's/.*\(NEEDED\).*\[(.*)\].*/\1/p' |
-    while read -r file; do printf '%-18s%-12s%-18s%s\n' "$file" system its "found as it starts"; done >>"$work/$name/MATERIALS"
+    while read -r file; do printf '%-18s%-12s%-28s%s\n' "$file" system its "found as it starts"; done >>"$work/$name/MATERIALS"
 packed "$name"
 
 checked_library "$library_aarch64" AArch64

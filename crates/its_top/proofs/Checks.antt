@@ -1,6 +1,5 @@
 -- What a status of `check` says, by what was read.
-use Rattle.std.proofs.Common.{◌≡◌, ◌⊎◌, ℕ, ◌<◌, ◌≤◌, List, length, Option, Some, Result, Ok, Err, IfOk, if◌then◌else◌, refl, ap, subst, ◌∙◌, inl, inr}
-use Rattle.std.proofs.Common.{arith}
+use Rattle.std.proofs.Common.{◌≡◌, ◌⊎◌, ℕ, ◌<◌, ◌≤◌, List, length, Some, Result, Ok, Err, IfOk, if◌then◌else◌, refl, ap, subst, ◌∙◌, inl, inr, arith}
 use Rattle.its_plain.specs.Described.{IsFirstState, IsRefused}
 use Rattle.its_plain.specs.Plain.{Plain}
 use Rattle.its_plain.specs.declared.desc.DescFault.{DescFault}
@@ -12,34 +11,18 @@ use Rattle.event_script.specs.declared.fault.ScriptFault.{ScriptFault}
 use Rattle.event_script.specs.declared.script.Script.{Script}
 use Rattle.its_history.specs.Reading.{trace_of, legs_from, lines_left, is_over, ◌then◌}
 use Rattle.its_history.specs.declared.trace.Leg.{Leg as LegLines}
-use Rattle.trace_check.specs.Verdicts.{IsReportOfRun}
+use Rattle.trace_check.specs.Verdicts.{IsReportOfRun, copies_of}
 use Rattle.report_reading.proofs.Reports.{run_reports}
-use Rattle.its_top.specs.Legs.{all_told}
-use Rattle.its_top.specs.Checked.{CheckCauses, CheckSays, ReportCauses, OfReport, IsAgreement, IsDiffering, IsBadTrace, IsNoMachine, IsCheckInput}
-use Rattle.its_top.specs.Checked.{read_report}
-use Rattle.trace_check.specs.Verdicts.{copies_of}
+use Rattle.its_answers.specs.Legs.{all_told}
+use Rattle.its_answers.specs.Checked.{CheckCauses, CheckSays, ReportCauses, OfReport, IsAgreement, IsDiffering, IsBadTrace, IsNoMachine, IsCheckInput}
+use Rattle.its_answers.specs.Checked.{read_report}
 use Rattle.its_top.specs.Its.{IsCheckDecided}
-use Rattle.its_top.specs.Streams.{WasRead}
-use Rattle.its_top.specs.declared.status.Status.{Status}
-use Rattle.its_top.specs.declared.status.Status.TheVariants as status
-use Rattle.its_top.proofs.Once.{same_ok, not_both, first_once, made_once, too_short}
+use Rattle.its_answers.specs.Streams.{WasRead}
+use Rattle.its_answers.specs.declared.status.Status.{Status}
+use Rattle.its_answers.specs.declared.status.Status.TheVariants as status
+use Rattle.its_answers.proofs.Once.{same_ok, not_both, first_once, made_once, too_short}
 
 -- ---- what was read and what it says
-
-pub said_causes : (told : Option (List ℕ)) (rose : Type 0) (input : List ℕ) (s : Status) (text : List ℕ) → WasRead told input → CheckSays input s text
-    → CheckCauses told rose s text
-said_causes told rose input status.Ok text was h = (input, (was, h))
-said_causes told rose input status.ScriptRefused text was h = (input, (was, h))
-said_causes told rose input status.WordsRefused text was h = absurd h
-said_causes told rose input status.ReadFault text was h = absurd h
-said_causes told rose input status.WriteFault text was h = absurd h
-said_causes told rose input status.Memory text was h = absurd h
-said_causes told rose input status.MachineRefused text was h = (input, (was, h))
-said_causes told rose input status.MigrationRefused text was h = absurd h
-said_causes told rose input status.Spent text was h = absurd h
-said_causes told rose input status.TooLong text was h = absurd h
-said_causes told rose input status.TraceDiffers text was h = (input, (was, h))
-said_causes told rose input status.BadTrace text was h = (input, (was, h))
 
 -- a report of a script that was read
 pub report_said : (input : List ℕ) (script : Script) (first : Plain) (report : List ℕ) (s : Status) (text : List ℕ) → IsCheckInput input script first report

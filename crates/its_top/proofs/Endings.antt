@@ -7,10 +7,10 @@ use Rattle.its_plain.specs.Saved.{moved, IsSavable}
 use Rattle.its_plain.specs.Runs.{Leg, IsLegRun, IsRun, call_count}
 use Rattle.its_plain.specs.declared.call.Entry.{Entry}
 use Rattle.its_plain.specs.declared.fault.SaveFault.{SaveFault}
-use Rattle.its_top.specs.Legs.{HasPlaces, HaveRun, CanMigrate, AllEnd}
-use Rattle.its_top.specs.declared.status.Status.{Status}
-use Rattle.its_top.specs.declared.status.Status.TheVariants as status
-use Rattle.its_top.proofs.Migrations.{not_empty}
+use Rattle.its_answers.specs.Legs.{HasPlaces, HaveRun, CanMigrate, AllEnd}
+use Rattle.its_answers.specs.declared.status.Status.{Status}
+use Rattle.its_answers.specs.declared.status.Status.TheVariants as status
+use Rattle.its_answers.proofs.Migrations.{not_empty}
 
 pub not_savable : {X : Type 0} (u : Plain) (f : SaveFault) → savable u ≡ Err f → IsSavable u → X
 not_savable u f e can =

@@ -15,7 +15,8 @@ use Rattle.its_migrate.specs.declared.outcome.Precopy.TheVariants as precopy
 use Rattle.its_turns.specs.Machines.{setup}
 use Rattle.its_turns.specs.declared.machine.Machine.{Machine}
 use Rattle.its_turns.specs.declared.machine.Pass.{Pass}
-use Rattle.its_top.specs.Answered.{GoesOnWith, IsLegWhole, IsLegMoved}
+use Rattle.its_top.specs.Answered.{GoesOnWith}
+use Rattle.its_answers.specs.Answered.{IsLegWhole, IsLegMoved}
 use Rattle.trace_check.specs.Verdicts.{copies_for}
 use Rattle.its_top.specs.Moves.{Leaves, IsLeftFor, precopy_error}
 use Rattle.its_top.specs.declared.moves.Left.{Left}

@@ -1,12 +1,7 @@
 pub mod Streams
-pub mod Lines
-pub mod Legs
 pub mod Moves
 pub mod Played
-pub mod Refusals
-pub mod Checked
 pub mod Summarized
 pub mod Its
 pub mod Answered
 pub mod Opened
-pub mod Compared

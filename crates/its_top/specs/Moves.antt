@@ -1,11 +1,8 @@
 -- How a leg ends that another follows.
-use Rattle.std.specs.Prelude.{◌≡◌, ℕ, List, ◌++◌, codes, Option, Some, None, Err}
-use Rattle.std.specs.Fmt.{decimal}
-use Rattle.its_plain.specs.Plain.{Plain}
+use Rattle.std.specs.Prelude.{◌≡◌, Err}
 use Rattle.its_plain.specs.Regions.{savable}
-use Rattle.its_plain.specs.Saved.{moved_count}
 use Rattle.event_script.specs.declared.script.Move.{Move}
-use Rattle.event_script.specs.declared.script.Move.TheVariants.{Migrate, Precopy}
+use Rattle.its_answers.specs.Moves.{pages_of}
 use Rattle.its_plain.specs.declared.fault.SaveError.{SaveError}
 use Rattle.its_plain.specs.declared.fault.SaveError.TheVariants as errors
 use Rattle.its_migrate.specs.Resting.{WentOn, resting}
@@ -15,16 +12,6 @@ use Rattle.its_turns.specs.declared.machine.Machine.{Machine}
 use Rattle.its_turns.specs.declared.machine.Pass.{Pass}
 use Rattle.its_top.specs.declared.moves.Left.{Left}
 use Rattle.its_top.specs.declared.moves.Left.TheVariants as left
-
--- how many pages are copied before it, of a machine in this state
-abbrev pub pages_of : Move → Plain → Option ℕ
-pages_of Migrate u = None
-pages_of Precopy u = Some (moved_count u)
-
--- what a report tells of it
-abbrev pub move_line : Option ℕ → List ℕ
-move_line None = codes "migrated\n"
-move_line (Some pages) = codes "migrated copied " ++ decimal pages ++ codes "\n"
 
 -- another machine goes on where this one could be saved, or it can't be
 abbrev pub Leaves : Machine → Pass → Move → Left → Type 0

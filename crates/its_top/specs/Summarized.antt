@@ -16,8 +16,8 @@ use Rattle.script_gen.specs.Summary.{counts_of, summary}
 use Rattle.script_gen.specs.declared.counts.Counts.{Counts}
 use Rattle.its_top.specs.Played.{IsFresh}
 use Rattle.its_top.specs.declared.moves.Shared.{Shared}
-use Rattle.its_top.specs.declared.status.Status.{Status}
-use Rattle.its_top.specs.declared.status.Status.TheVariants as status
+use Rattle.its_answers.specs.declared.status.Status.{Status}
+use Rattle.its_answers.specs.declared.status.Status.TheVariants as status
 
 -- how many LPIs are pending at each virtual processor
 abbrev pub pending_counts : Plain → List ℕ

@@ -3,20 +3,20 @@ ghost use Rattle.std.specs.Prelude.{◌≡◌, ◌≢◌, ◌≤◌, ◌++◌, �
 ghost use Rattle.std.specs.String.{string_bytes};
 ghost use Rattle.its_io.specs.Bytes.{Appends};
 ghost use Rattle.its_io.specs.Count.{Rose};
-ghost use Rattle.its_top.specs.Checked.{CheckCauses};
-ghost use Rattle.its_top.specs.Its.{Causes, RunCauses, ExplainCauses, Reads, IsDecided};
+ghost use Rattle.its_answers.specs.Checked.{CheckCauses};
+ghost use Rattle.its_top.specs.Its.{Causes, Reads, IsDecided};
+ghost use Rattle.its_answers.specs.Its.{RunCauses, ExplainCauses};
 ghost use Rattle.its_top.specs.Streams.{IsAtEnd};
 ghost use Rattle.its_top.specs.Summarized.{GenCauses};
-ghost use Rattle.its_top.specs.Answered.{AnswerIsCaused, MayEndWell, refusal_text};
+ghost use Rattle.its_top.specs.Answered.{AnswerIsCaused, MayEndWell};
+ghost use Rattle.its_answers.specs.Answered.{refusal_text};
 ghost use Rattle.script_gen.specs.Laws.{IsAsked};
 
-use crate::check::say_check;
 use crate::explain::explain;
-use crate::legs::Ending;
 use crate::say::say;
-use crate::status::Status;
 use crate::streams::{ReadAllError, read_all, write_both};
 use crate::summarize::summarize;
+use its_answers::{Ending, Status, refusal, say_check};
 use its_io::{Failed, Sink, Source};
 use its_types::Gate;
 use its_words::{Asked, WordsError, help_text, parse_words, version_text};
@@ -211,19 +211,6 @@ pub fn refuse<K: Sink>(sink: &mut K, status: Status) -> Status
         (take n (refusal_text status))) }
 {
     print(sink, "", refusal(status), status)
-}
-
-// The line of a status that needs no more words.
-fn refusal(status: Status) -> &'static str
-    ensures { result.now ≡ refusal_text status }
-{
-    match status {
-        Status::WordsRefused => "refused words\n",
-        Status::ReadFault => "refused read\n",
-        Status::Memory => "refused memory\n",
-        Status::TooLong => "refused long\n",
-        _ => "",
-    }
 }
 
 // Ends with this status, if the report and the line after it are printed.

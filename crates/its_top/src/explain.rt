@@ -1,13 +1,12 @@
 //! What is said to people of an input: what `run` or `check` says of it, and why.
 ghost use Rattle.std.specs.Prelude.{IfOk};
 ghost use Rattle.std.specs.String.{string_bytes};
-ghost use Rattle.its_top.specs.Checked.{CheckSays};
-ghost use Rattle.its_top.specs.Its.{BeginsSo, ExplainsRun, ExplainSays};
+ghost use Rattle.its_answers.specs.Checked.{CheckSays};
+ghost use Rattle.its_answers.specs.Its.{BeginsSo, ExplainsRun, ExplainSays};
 
-use crate::check::say_check;
-use crate::legs::Ending;
 use crate::say::say;
 use event_script::{ParseError, parse_check};
+use its_answers::{Ending, say_check};
 use its_explain::{explain_check, explain_run};
 use its_types::Gate;
 use std::alloc::{AllocError, Global};

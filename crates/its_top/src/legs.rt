@@ -1,41 +1,28 @@
 //! A run of a script: its legs, with a migration of the machine between each two.
-ghost use Rattle.std.specs.Prelude.{◌≡◌, ◌++◌, ◌≤◌, [], None, IfOk, OnErr, OnOk, length, map};
+ghost use Rattle.std.specs.Prelude.{◌≡◌, ◌++◌, ◌≤◌, [], IfOk, OnErr, length, map};
 ghost use Rattle.std.specs.List.{AllByRecursion};
 ghost use Rattle.std.specs.String.{string_bytes};
 ghost use Rattle.its_turns.specs.Machines.{setup};
 ghost use Rattle.script_threads.specs.Asks.{MayRunLeg};
 ghost use Rattle.its_history.specs.Report as history;
 ghost use Rattle.its_migrate.specs.Resting.{resting};
-ghost use Rattle.its_top.specs.Answered.{RunEnds, IsSoFar, LegGoes, LegIsLast, IsLastLine};
-ghost use Rattle.its_top.specs.Answered.{IsSpentEnding};
-ghost use Rattle.its_top.specs.Opened.{LegOpens, LegIsLeft, IsRefusedEnding, IsDoneEnding};
-ghost use Rattle.its_top.specs.Moves.{move_line};
+ghost use Rattle.its_answers.specs.Answered.{RunEnds, IsSoFar, IsLastLine};
+ghost use Rattle.its_top.specs.Answered.{LegGoes, LegIsLast};
+ghost use Rattle.its_top.specs.Opened.{LegOpens, LegIsLeft};
 ghost use Rattle.its_top.specs.Played.{IsFresh, IsAtRest, IsReady};
 ghost use Rattle.its_history.specs.Reports as spec;
 
-use crate::moves::{LINE, Left, Shared, leave, push_line};
+use crate::moves::{Left, Shared, leave};
 use crate::play::play_leg;
-use crate::refusals::{migration_refusal, spent_refusal};
-use crate::status::Status;
 use event_script::{Move, Phase, Script};
-use its_history::{EntryLine, Leg, Text, leg_text, pending_text};
+use its_answers::{Ending, add_moved, end_done, end_refused, end_spent, open_text};
+use its_history::{Text, pending_text};
 use its_migrate::pending;
-use its_plain::SaveFault;
 use its_turns::{Machine, Root};
 use its_types::{Gate, Listed};
 use std::alloc::{AllocError, Global};
 use std::sync::Wait;
 use std::thread::Threads;
-
-/// How a run ended: its status, and the line after the report, which is a refusal's or has no
-/// bytes.
-#[derive(Drop)]
-pub struct Ending {
-    /// What the command ends with.
-    pub status: Status,
-    /// With its line feed, or without a byte.
-    pub line: String,
-}
 
 /// What came of a leg that isn't the last: the machine goes on, or the run ends.
 #[derive(Drop)]
@@ -221,114 +208,6 @@ fn open_leg<R: Threads + Wait + Sync, G: Gate + Sync>(
     let texts = pending_texts(alloc, machine, root)?;
     let text = open_text(alloc, report, number, played.lines, texts)?;
     Ok(Opened::Whole(text))
-}
-
-/// Adds the entries of a leg that had no place left.
-fn end_spent(
-    alloc: Global,
-    report: &mut String,
-    number: u64,
-    lines: Vec<EntryLine>,
-) -> Result<Ending, AllocError>
-    ensures ok { IfOk result (λ e.
-        IsSpentEnding number lines.items (string_bytes report.old) (string_bytes report.new) e) }
-    ensures err { OnErr result (string_bytes report.new ≡ string_bytes report.old) }
-{
-    let line = spent_refusal(alloc, number)?;
-    let leg = Leg {
-        entries: Listed::from_vec(lines),
-        pending: Listed::new(alloc),
-        end: None,
-    };
-    let text = leg_text(alloc, number, &leg)?;
-    add_text(report, text)?;
-    Ok(Ending {
-        status: Status::Spent,
-        line,
-    })
-}
-
-/// Adds the text of a leg after which the state can't be saved.
-fn end_refused(
-    alloc: Global,
-    report: &mut String,
-    text: String,
-    number: u64,
-    fault: SaveFault,
-) -> Result<Ending, AllocError>
-    ensures ok { IfOk result (λ e.
-        IsRefusedEnding number fault (string_bytes text) (string_bytes report.old)
-        (string_bytes report.new) e) }
-    ensures err { OnErr result (string_bytes report.new ≡ string_bytes report.old) }
-{
-    let line = migration_refusal(alloc, number, fault)?;
-    add_text(report, text)?;
-    let status = Status::MigrationRefused;
-    Ok(Ending { status, line })
-}
-
-/// Adds the text of the last leg.
-fn end_done(alloc: Global, report: &mut String, mut text: String) -> Result<Ending, AllocError>
-    ensures ok { IfOk result (λ e.
-        IsDoneEnding (string_bytes text) (string_bytes report.old) (string_bytes report.new) e) }
-    ensures err { OnErr result (string_bytes report.new ≡ string_bytes report.old) }
-{
-    text.push_str("done\n")?;
-    add_text(report, text)?;
-    Ok(Ending {
-        status: Status::Ok,
-        line: String::new(alloc),
-    })
-}
-
-/// The text of a leg but for its last line. It has room for that line, and the report for both, so
-/// that neither is lost once the machine is left.
-fn open_text(
-    alloc: Global,
-    report: &mut String,
-    number: u64,
-    lines: Vec<EntryLine>,
-    pending: Listed<Text>,
-) -> Result<String, AllocError>
-    ensures text { IfOk result (λ text.
-        string_bytes text ≡ history.leg_text number
-        (record { entries = lines.items; pending = pending; end = None })) }
-    ensures same { string_bytes report.new ≡ string_bytes report.old }
-{
-    let leg = Leg {
-        entries: Listed::from_vec(lines),
-        pending,
-        end: None,
-    };
-    let mut text = leg_text(alloc, number, &leg)?;
-    text.reserve(LINE)?;
-    if !report.is_empty() {
-        report.reserve(text.capacity())?;
-    }
-    Ok(text)
-}
-
-/// Adds the text of a leg after which the machine was left for another.
-fn add_moved(report: &mut String, mut text: String, pages: Option<u64>) -> Result<(), AllocError>
-    ensures ok { OnOk result (string_bytes report.new
-        ≡ string_bytes report.old ++ (string_bytes text ++ move_line pages)) }
-    ensures err { OnErr result (string_bytes report.new ≡ string_bytes report.old) }
-{
-    push_line(&mut text, pages)?;
-    add_text(report, text)
-}
-
-/// Adds the text of a leg. The first leg's is the report so far, without a copy.
-fn add_text(report: &mut String, text: String) -> Result<(), AllocError>
-    ensures ok { OnOk result
-        (string_bytes report.new ≡ string_bytes report.old ++ string_bytes text) }
-    ensures err { OnErr result (string_bytes report.new ≡ string_bytes report.old) }
-{
-    if report.is_empty() {
-        *report = text;
-        return Ok(());
-    }
-    report.push_str(text.as_str())
 }
 
 /// What is pending at each virtual processor of a machine at rest.

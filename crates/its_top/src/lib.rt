@@ -2,17 +2,14 @@
 //! standard streams.
 #![tactic(auto)]
 
-mod check;
 mod command;
 mod explain;
 mod legs;
 mod moves;
 mod play;
-mod refusals;
 mod say;
-mod status;
 mod streams;
 mod summarize;
 
 pub use command::{its, refuse};
-pub use status::Status;
+pub use its_answers::Status;

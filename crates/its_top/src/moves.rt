@@ -1,20 +1,14 @@
 //! How a leg ends that another follows: the machine is left for another that goes on.
-ghost use Rattle.std.specs.Prelude.{◌≡◌, ◌++◌, [], IfOk, OnOk};
-ghost use Rattle.std.specs.String.{string_bytes};
+ghost use Rattle.std.specs.Prelude.{◌≡◌, [], IfOk};
 ghost use Rattle.its_turns.specs.Machines.{view, IsOf};
 ghost use Rattle.its_turns.specs.Told.{IsLone};
-ghost use Rattle.trace_check.specs.Verdicts.{copies_for, copies_of};
-ghost use Rattle.its_top.specs.Moves.{Leaves, IsLeftFor, move_line, precopy_error};
+ghost use Rattle.its_top.specs.Moves.{Leaves, IsLeftFor, precopy_error};
 
 use event_script::Move;
 use its_migrate::{Precopy, migrate, precopy};
 use its_plain::{SaveError, SaveFault};
 use its_turns::{Machine, Root};
 use std::alloc::{AllocError, Global};
-use std::fmt::Write;
-
-/// More bytes than the line has that tells it: the longest is of a pre-copy.
-pub const LINE: usize = 48;
 
 /// A machine that the threads of a leg share, with its root.
 #[derive(Drop)]
@@ -88,32 +82,5 @@ fn error_of(error: &Precopy) -> SaveError
     match error {
         Precopy::Fault(_, _, fault) => SaveError::Fault(*fault),
         Precopy::NoMemory(_) => SaveError::NoMemory,
-    }
-}
-
-/// Adds the line that tells it to the text of a leg, where the copied pages are told if there are
-/// any.
-pub fn push_line(text: &mut String, pages: Option<u64>) -> Result<(), AllocError>
-    ensures { OnOk result (string_bytes text.new ≡ string_bytes text.old ++ move_line pages) }
-{
-    match pages {
-        None => text.push_str("migrated\n"),
-        Some(pages) => writeln!(text, "migrated copied {pages}"),
-    }
-}
-
-/// For each move whether pages are copied before it.
-pub fn copies(alloc: Global, moves: &[Move]) -> Result<Vec<bool>, AllocError>
-    ensures { IfOk result (λ copies. copies.items ≡ copies_of moves.now) }
-{
-    moves.iter().map(|way| copied(*way)).collect(alloc)
-}
-
-fn copied(way: Move) -> bool
-    ensures { result ≡ copies_for way }
-{
-    match way {
-        Move::Migrate => false,
-        Move::Precopy => true,
     }
 }

@@ -1,5 +1,5 @@
 //! A leg of a script on a machine that its threads share.
-ghost use Rattle.std.specs.Prelude.{◌≡◌, ◌≤◌, IfOk, length};
+ghost use Rattle.std.specs.Prelude.{◌≤◌, IfOk, length};
 ghost use Rattle.std.specs.List.{AllByRecursion};
 ghost use Rattle.its_turns.specs.Machines.{setup, view};
 ghost use Rattle.script_threads.specs.Asks.{MayRunLeg};

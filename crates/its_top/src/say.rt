@@ -2,14 +2,13 @@
 ghost use Rattle.std.specs.Prelude.{◌≡◌, ◌++◌, [], IfOk, OnErr};
 ghost use Rattle.std.specs.String.{string_bytes};
 ghost use Rattle.event_script.specs.Limits.{IsWithinLimits};
-ghost use Rattle.its_top.specs.Answered.{InputCauses, IsLastLine, StopsShort};
-ghost use Rattle.its_top.specs.Answered.{ScriptCauses, ScriptStopsShort};
+ghost use Rattle.its_answers.specs.Answered.{InputCauses, IsLastLine, StopsShort, ScriptCauses};
+ghost use Rattle.its_answers.specs.Answered.{ScriptStopsShort};
 
-use crate::legs::{Ending, run};
+use crate::legs::run;
 use crate::moves::Shared;
-use crate::refusals::{machine_refusal, script_refusal};
-use crate::status::Status;
 use event_script::{ParseError, Script, parse};
+use its_answers::{Ending, Status, machine_refusal, script_refusal};
 use its_migrate::share;
 use its_plain::MakeError;
 use its_types::Gate;

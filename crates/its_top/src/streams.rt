@@ -3,7 +3,8 @@ ghost use Rattle.std.specs.Prelude.{◌≡◌, ◌<◌, ◌≤◌, ◌^◌, ◌+
 ghost use Rattle.std.specs.Prelude.{IfSome, length, take};
 ghost use Rattle.its_io.specs.Bytes.{Appends};
 ghost use Rattle.its_io.specs.Count.{Rose, HasCause};
-ghost use Rattle.its_top.specs.Streams.{Tells, IsAtEnd};
+ghost use Rattle.its_answers.specs.Streams.{Tells};
+ghost use Rattle.its_top.specs.Streams.{IsAtEnd};
 ghost use Rattle.its_top.specs.declared.streams.ReadAllError.TheVariants.{Memory};
 
 use its_io::{Failed, Sink, Source};

@@ -1,8 +1,8 @@
 use Rattle.std.proofs.Common.{List, ℕ, subst}
 use Rattle.std.specs.String.{string_bytes}
 use Rattle.its_io.specs.Count.{Rose}
-use Rattle.its_top.specs.Answered.{StopsShort}
-use Rattle.its_top.proofs.Causes.{short_causes}
+use Rattle.its_answers.specs.Answered.{StopsShort}
+use Rattle.its_answers.proofs.Causes.{short_causes}
 use Rattle.its_top.proofs.command.run_command.Goals as goal
 
 pub returns-clause-caused : goal.returns-clause-caused

@@ -1,6 +1,6 @@
 use Rattle.std.proofs.Common.{◌++◌, ap, ◌∙◌}
 use Rattle.std.specs.String.{string_bytes}
-use Rattle.its_top.specs.Moves.{move_line}
+use Rattle.its_answers.specs.Moves.{move_line}
 use Rattle.its_top.proofs.legs.leave_leg.Goals as goal
 
 pub returns-in_ok-add_moved-in-On-clause-ok : goal.returns-in_ok-add_moved-in-On-clause-ok

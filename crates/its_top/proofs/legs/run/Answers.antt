@@ -2,10 +2,11 @@ use Rattle.std.proofs.Common.{arith, ◌<◌, ℕ, List, [], length, drop, ◌+�
 use Rattle.std.specs.String.{string_bytes}
 use Rattle.its_types.specs.declared.machine.Limits.{Limits}
 use Rattle.its_turns.specs.Machines.{setup}
-use Rattle.its_top.specs.Answered.{IsSoFar, LegStops, LegEnds}
-use Rattle.its_top.proofs.Explained.{stops_line, ends_line}
+use Rattle.its_answers.specs.Answered.{IsSoFar, LegStops, LegEnds}
+use Rattle.its_answers.proofs.Explained.{stops_line, ends_line}
 use Rattle.its_top.proofs.Runs.{leg_may}
-use Rattle.its_top.proofs.Scripts.{move_below, earlier_leg, final_leg, leg_behind, stops_here, ends_here, goes_on_at, so_far, on_err}
+use Rattle.its_answers.proofs.Scripts.{move_below, earlier_leg, final_leg, leg_behind, stops_here, ends_here, goes_on_at, on_err}
+use Rattle.its_answers.proofs.Causes.{so_far}
 use Rattle.its_top.proofs.legs.run.Goals as goal
 
 pub run_leg-requires-clause-phases : goal.run_leg-requires-clause-phases

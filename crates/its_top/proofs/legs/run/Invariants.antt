@@ -2,7 +2,7 @@ use Rattle.std.proofs.Common.{◌≡◌, ◌+◌}
 use Rattle.std.specs.String.{string_bytes}
 use Rattle.its_turns.specs.Machines.{setup}
 use Rattle.its_top.specs.Played.{IsReady}
-use Rattle.its_top.proofs.Scripts.{HasRunTo}
+use Rattle.its_answers.proofs.Scripts.{HasRunTo}
 use Rattle.its_top.proofs.legs.run.Given as goal
 
 abbrev pub invariant-loop-leg : goal.invariant-loop-leg

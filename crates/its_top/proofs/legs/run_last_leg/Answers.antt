@@ -1,7 +1,7 @@
 use Rattle.std.specs.String.{string_bytes}
 use Rattle.its_migrate.specs.Resting.{resting}
 use Rattle.its_turns.specs.Machines.{setup}
-use Rattle.its_top.proofs.Runs.{last_done}
+use Rattle.its_answers.proofs.Told.{last_done}
 use Rattle.its_top.proofs.legs.run_last_leg.Goals as goal
 
 pub returns-in_ok-ending-in-Whole-clause-ok : goal.returns-in_ok-ending-in-Whole-clause-ok

@@ -4,8 +4,8 @@ use Rattle.event_script.specs.Limits.{IsWithinLimits}
 use Rattle.event_script.specs.Script.{script_of}
 use Rattle.event_script.specs.declared.fault.ScriptFault.{ScriptFault}
 use Rattle.event_script.specs.declared.script.Script.{Script}
-use Rattle.its_top.proofs.Saying.{script_said, short_said}
-use Rattle.its_top.proofs.Scripts.{on_err}
+use Rattle.its_answers.proofs.Saying.{script_said, short_said}
+use Rattle.its_answers.proofs.Scripts.{on_err}
 use Rattle.its_top.proofs.say.say.Goals as goal
 
 fits : (input : List ℕ) (script : Script) → script_of input ≡ Ok script → IsWithinLimits script

@@ -1,5 +1,5 @@
 use Rattle.std.proofs.Common.{refl, rules}
-use Rattle.its_top.proofs.Saying.{run_said, so_far_said}
+use Rattle.its_answers.proofs.Saying.{run_said, so_far_said}
 use Rattle.its_top.proofs.Sharing.{is_ready, some_shards, most_shards, stamps, stamps_of_two, places}
 use Rattle.its_top.proofs.say.say_script.Goals as goal
 

@@ -1,0 +1,13 @@
+pub mod Drafts
+pub mod Lines
+pub mod Layouts
+pub mod Enabling
+pub mod Migrations
+pub mod Scripts
+pub mod Saying
+pub mod Told
+pub mod Once
+pub mod Reports
+pub mod Checking
+pub mod Explained
+pub mod Causes

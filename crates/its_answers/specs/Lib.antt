@@ -1,0 +1,10 @@
+pub mod Streams
+pub mod Lines
+pub mod Legs
+pub mod Moves
+pub mod Refusals
+pub mod Checked
+pub mod Its
+pub mod Answered
+pub mod Opened
+pub mod Compared

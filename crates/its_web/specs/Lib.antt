@@ -1,0 +1,4 @@
+pub mod Played
+pub mod Moves
+pub mod Legs
+pub mod Answers
