@@ -1,0 +1,7 @@
+pub mod Marks
+pub mod Places
+pub mod Elements
+pub mod Calls
+pub mod Rest
+pub mod Svg
+pub mod Replays

@@ -1,0 +1,34 @@
+-- The text of a picture.
+use Rattle.std.specs.Prelude.{ℕ, zero, suc, List, [], ◌++◌, codes}
+use Rattle.std.specs.Fmt.{decimal}
+use Rattle.std.specs.List.{flat_map}
+use Rattle.its_draw.specs.Calls.{call_text}
+use Rattle.its_draw.specs.Places.{width, height}
+use Rattle.its_draw.specs.Rest.{thread_text, vcpu_text, row_name, wall_text, bar_text, move_text, pending_text}
+use Rattle.its_draw.specs.declared.drawing.Drawing.{Drawing}
+use Rattle.its_draw.specs.declared.places.Frame.{Frame}
+use Rattle.its_draw.specs.declared.style.TheConstants.{STYLE}
+
+unfoldable pub head_text : Frame → List ℕ
+head_text f =
+    codes "<svg xmlns='http://www.w3.org/2000/svg' width='" ++ decimal (width f) ++ codes "' height='" ++ decimal (height f) ++ codes "'"
+    ++ codes " viewBox='0 0 " ++ decimal (width f) ++ codes " " ++ decimal (height f) ++ codes "'>\n" ++ STYLE.now
+
+-- the lanes of the first n threads, counted from 1
+abbrev pub threads_text : Frame → ℕ → List ℕ
+threads_text f zero = []
+threads_text f (suc n) = threads_text f n ++ thread_text f (suc n)
+
+-- the lanes of the first n virtual processors
+abbrev pub vcpus_text : Frame → ℕ → List ℕ
+vcpus_text f zero = []
+vcpus_text f (suc n) = vcpus_text f n ++ vcpu_text f n
+
+abbrev pub lanes_text : Frame → List ℕ
+lanes_text f = threads_text f f.threads ++ vcpus_text f f.lanes
+
+unfoldable pub svg_text : Drawing → List ℕ
+svg_text d =
+    head_text d.frame ++ lanes_text d.frame ++ flat_map (row_name d.frame) d.rows ++ flat_map (wall_text d.frame) d.walls
+    ++ flat_map (bar_text d.frame) d.bars ++ flat_map (move_text d.frame) d.moves ++ flat_map (call_text d.frame) d.calls
+    ++ flat_map (pending_text d.frame) d.pending ++ codes "</svg>\n"
