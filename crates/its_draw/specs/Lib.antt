@@ -5,3 +5,4 @@ pub mod Calls
 pub mod Rest
 pub mod Svg
 pub mod Replays
+pub mod Draws

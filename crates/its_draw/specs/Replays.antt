@@ -1,5 +1,6 @@
 -- What the calls of a leg show, made again in the order of its lines.
-use Rattle.std.specs.Prelude.{◌≡◌, ℕ, List, [], ◌∷◌, ◌++◌, map}
+use Rattle.std.specs.Prelude.{◌≡◌, ℕ, List, map}
+use Rattle.std.specs.List.{flat_map}
 use Rattle.its_plain.specs.Plain.{Plain}
 use Rattle.its_plain.specs.Answer.{answer}
 use Rattle.its_plain.specs.History.{IsLegal, after}
@@ -51,9 +52,11 @@ told shown = map shown_told shown
 abbrev pub lines : List EntryLine → List (ℕ × List ℕ)
 lines entries = map told_of entries
 
+abbrev pub leg_lines : Leg → List (ℕ × List ℕ)
+leg_lines leg = lines leg.entries
+
 abbrev pub all_lines : List Leg → List (ℕ × List ℕ)
-all_lines [] = []
-all_lines (leg ∷ legs) = lines leg.entries ++ all_lines legs
+all_lines legs = flat_map leg_lines legs
 
 abbrev pub both : Went → Went → Went
 both On w = w

@@ -1,9 +1,9 @@
 -- The text of a picture beside its calls.
-use Rattle.std.specs.Prelude.{ℕ, ◌+◌, ◌-◌, ◌*◌, ◌==◌, nat_le, Bool, true, false, if◌then◌else◌, List, [], ◌++◌, codes, length, Option, Some, None}
-use Rattle.std.specs.Fmt.{decimal}
+use Rattle.std.specs.Prelude.{ℕ, ◌+◌, ◌-◌, ◌*◌, nat_le, Bool, true, false, if◌then◌else◌, List, [], ◌++◌, codes, length, Option, Some, None}
+use Rattle.its_history.specs.Texts.{its_mark}
 use Rattle.its_command.specs.declared.command.Op.{Op}
 use Rattle.its_draw.specs.Calls.{hue_text, op_name}
-use Rattle.its_draw.specs.Elements.{line_text, sign_text, words_text, numbered_text, rect_text}
+use Rattle.its_draw.specs.Elements.{event_text, line_text, numbered_text, rect_text, sign_text, words_text}
 use Rattle.its_draw.specs.Places.{column_x, thread_y, event_y, vcpu_y, width, height}
 use Rattle.its_draw.specs.declared.drawing.Pending.{Pending}
 use Rattle.its_draw.specs.declared.drawing.Wall.{Wall}
@@ -28,13 +28,8 @@ thread_text f thread = lane_text f (thread_y thread) ++ numbered_text (codes "na
 unfoldable pub vcpu_text : Frame → ℕ → List ℕ
 vcpu_text f vcpu = lane_text f (vcpu_y f vcpu) ++ numbered_text (hue_text vcpu) (at 8 (vcpu_y f vcpu)) (codes "vCPU") vcpu
 
-abbrev pub its_text : ℕ → List ℕ
-its_text its = if its == 0 then [] else codes "b "
-
 unfoldable pub row_name : Frame → Row → List ℕ
-row_name f row =
-    codes "<text class='name' x='8' y='" ++ decimal (event_y f row.number) ++ codes "'>" ++ its_text row.key.its ++ codes "dev "
-    ++ decimal row.key.dev.0 ++ codes " ev " ++ decimal row.key.ev.0 ++ codes "</text>\n"
+row_name f row = event_text (at 8 (event_y f row.number)) (its_mark row.key.its) row.key.dev.0 row.key.ev.0
 
 -- ---- legs and phases
 

@@ -9,10 +9,14 @@ use Rattle.its_draw.specs.declared.drawing.Drawing.{Drawing}
 use Rattle.its_draw.specs.declared.places.Frame.{Frame}
 use Rattle.its_draw.specs.declared.style.TheConstants.{STYLE}
 
+unfoldable pub size_text : ℕ → ℕ → List ℕ
+size_text w h = codes " width='" ++ decimal w ++ codes "' height='" ++ decimal h ++ codes "'"
+
+unfoldable pub box_text : ℕ → ℕ → List ℕ
+box_text w h = codes " viewBox='0 0 " ++ decimal w ++ codes " " ++ decimal h ++ codes "'>\n"
+
 unfoldable pub head_text : Frame → List ℕ
-head_text f =
-    codes "<svg xmlns='http://www.w3.org/2000/svg' width='" ++ decimal (width f) ++ codes "' height='" ++ decimal (height f) ++ codes "'"
-    ++ codes " viewBox='0 0 " ++ decimal (width f) ++ codes " " ++ decimal (height f) ++ codes "'>\n" ++ STYLE.now
+head_text f = codes "<svg xmlns='http://www.w3.org/2000/svg'" ++ size_text (width f) (height f) ++ box_text (width f) (height f) ++ STYLE.now
 
 -- the lanes of the first n threads, counted from 1
 abbrev pub threads_text : Frame → ℕ → List ℕ

@@ -5,12 +5,14 @@ ghost use Rattle.its_draw.specs.Rest as spec;
 
 use crate::calls::{hue, op_name};
 use crate::drawing::{Pending, Wall};
-use crate::elements::{push_line, push_numbered, push_rect, push_sign, push_words};
+use crate::elements::{
+    push_event, push_line, push_numbered, push_rect, push_sign, push_words,
+};
 use crate::events::{Bar, BarEnd, Moved, Row};
 use crate::places::{Frame, Point, column_x, thread_y};
+use its_history::its_mark;
 use its_types::Vcpu;
 use std::alloc::AllocError;
-use std::fmt::Write;
 
 /// Adds a lane from the names to the right end.
 fn push_lane(out: &mut String, frame: &Frame, y: u64) -> Result<(), AllocError>
@@ -55,11 +57,12 @@ pub fn push_row_name(out: &mut String, frame: &Frame, row: &Row) -> Result<(), A
     ensures { OnOk result (string_bytes out.new
         ≡ string_bytes out.old ++ spec.row_name frame.now row.now) }
 {
-    let y = frame.event_y(row.number);
+    let at = Point {
+        x: 8,
+        y: frame.event_y(row.number),
+    };
     let key = row.key;
-    let its = if key.its == 0 { "" } else { "b " };
-    write!(out, "<text class='name' x='8' y='{y}'>{its}dev {}", key.dev.0)?;
-    writeln!(out, " ev {}</text>", key.ev.0)
+    push_event(out, at, its_mark(key.its), key.dev.0, key.ev.0)
 }
 
 /// Adds the wall before a leg or a phase.

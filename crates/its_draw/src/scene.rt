@@ -82,17 +82,17 @@ impl Scene {
     fn add_calls(&mut self, shown: Vec<Shown>) -> Result<(), AllocError>
         ensures { OnOk result (self.new.calls.items ≡ self.old.calls.items ++ shown.items) }
     {
-        for one in shown {
+        let mut shown = shown;
+        for one in &shown {
             self.threads = self.threads.max(one.thread);
             self.column = self.column.saturating_add(1);
-            self.calls.push(one)?;
         }
-        Ok(())
+        self.calls.append(&mut shown)
     }
 
     /// Walls before the leg, if it isn't the first, and before each phase.
     fn add_walls(&mut self, entries: &[EntryLine], index: usize) -> Result<(), AllocError>
-        ensures { self.new.calls ≡ self.old.calls }
+        ensures { self.new.calls.items ≡ self.old.calls.items }
     {
         let mut column = self.column;
         if index > 0 {
@@ -120,7 +120,7 @@ impl Scene {
 
     /// What is pending at the virtual processors that have a lane, in columns of its own.
     fn add_pending(&mut self) -> Result<(), AllocError>
-        ensures { self.new.calls ≡ self.old.calls }
+        ensures { self.new.calls.items ≡ self.old.calls.items }
     {
         let column = self.column;
         for vcpu in 0..MOST_LANES {
@@ -141,7 +141,7 @@ impl Scene {
 
     /// Goes on to the next leg, if there is one and the state can be saved.
     fn move_on(&mut self, way: Option<Move>) -> Result<(), AllocError>
-        ensures { self.new.calls ≡ self.old.calls }
+        ensures { self.new.calls.items ≡ self.old.calls.items }
     {
         let moved = match way {
             None => Ok(()),

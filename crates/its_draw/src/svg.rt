@@ -43,9 +43,26 @@ fn push_head(out: &mut String, frame: &Frame) -> Result<(), AllocError>
         (string_bytes out.new ≡ string_bytes out.old ++ spec.head_text frame.now) }
 {
     let (width, height) = (frame.width(), frame.height());
-    write!(out, "<svg xmlns='http://www.w3.org/2000/svg' width='{width}' height='{height}'")?;
-    writeln!(out, " viewBox='0 0 {width} {height}'>")?;
+    out.push_str("<svg xmlns='http://www.w3.org/2000/svg'")?;
+    push_size(out, width, height)?;
+    push_box(out, width, height)?;
     out.push_str(STYLE)
+}
+
+#[tactic(auto, unfolding(crate::specs::Svg::size_text))]
+fn push_size(out: &mut String, width: u64, height: u64) -> Result<(), AllocError>
+    ensures { OnOk result
+        (string_bytes out.new ≡ string_bytes out.old ++ spec.size_text width height) }
+{
+    write!(out, " width='{width}' height='{height}'")
+}
+
+#[tactic(auto, unfolding(crate::specs::Svg::box_text))]
+fn push_box(out: &mut String, width: u64, height: u64) -> Result<(), AllocError>
+    ensures { OnOk result
+        (string_bytes out.new ≡ string_bytes out.old ++ spec.box_text width height) }
+{
+    writeln!(out, " viewBox='0 0 {width} {height}'>")
 }
 
 fn push_lanes(out: &mut String, frame: &Frame) -> Result<(), AllocError>
