@@ -136,7 +136,13 @@ async function links(page) {
 async function large(page) {
   const head = (await page.evaluate($("script") + ".value")).split("# ---- all at once")[0];
   const calls = "signal 7 2\ntake 0\n".repeat(32768), start = Date.now();
-  await page.put("script", head + "phase\nthread\n" + calls + "end\n");
+  const script = head + "phase\nthread\n" + calls + "end\n";
+  await page.put("script", script);
+  await page.until(text("state") + ` === "running"`);
+  const asked = Date.now();
+  await page.frame();
+  const waited = Date.now() - asked;
+  expect("the page can be used while the module works, after " + waited + " ms", waited < 5000);
   await page.until(`document.querySelector("#rows.many") !== null && ${DONE}`, 600);
   const said = await page.evaluate(text("state"));
   console.log(`     65,536 calls: ${said}, shown after ${Date.now() - start} ms`);
@@ -146,6 +152,11 @@ async function large(page) {
   await page.until(`+document.querySelector("#drawn .hit")?.dataset.row > 60000`);
   const boxes = await page.evaluate(`document.getElementsByTagName("*").length`);
   expect("only what is seen is made, " + boxes + " elements", boxes < 3000);
+  await page.put("script", script + "# again\n");
+  await page.until(text("state") + ` === "running"`);
+  await example(page, "first_lpi");
+  const rows = await page.evaluate(text("rows"));
+  expect("a later script takes its place", rows.includes("11 2.1 signal 7 2 -> delivered 1 8192"));
 }
 
 const OUTSIDE = "https://example.com/";

@@ -5,8 +5,7 @@ use Rattle.its_turns.specs.Machines.{setup}
 use Rattle.its_answers.specs.Answered.{IsSoFar, LegStops, LegEnds}
 use Rattle.its_answers.proofs.Explained.{stops_line, ends_line}
 use Rattle.its_top.proofs.Runs.{leg_may}
-use Rattle.its_answers.proofs.Scripts.{move_below, earlier_leg, final_leg, leg_behind, stops_here, ends_here, goes_on_at, on_err}
-use Rattle.its_answers.proofs.Causes.{so_far}
+use Rattle.its_answers.proofs.Scripts.{move_below, earlier_leg, final_leg, leg_behind, stops_here, ends_here, goes_on_at, so_far, on_err}
 use Rattle.its_top.proofs.legs.run.Goals as goal
 
 pub run_leg-requires-clause-phases : goal.run_leg-requires-clause-phases
