@@ -28,8 +28,8 @@ const PICTURE: &str = "<line class='lane' x1='112' y1='68' x2='406' y2='68'/>
 <line class='wall' x1='112' y1='4' x2='112' y2='196'/>
 <text class='dim' x='116' y='14'>phase 1</text>
 <g class='call'><title>1.1 signal 16 3 -> dropped disabled</title>
-<use href='#dot' class='lost' x='124' y='68'/>
-<use href='#cross' class='cross' x='124' y='68'/>
+<use class='lost' x='124' y='68' href='#dot'/>
+<use class='cross' x='124' y='68' href='#cross'/>
 </g>
 <text class='small' x='148' y='114'>none</text>
 <text class='small' x='148' y='134'>none</text>
