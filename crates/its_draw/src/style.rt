@@ -11,7 +11,8 @@ svg{--tick:#7a8089;--v0:#5cc98f;--v1:#d3a4f0;--v2:#f0a35e;--v3:#66c7d6}
 text{font:11px system-ui,'DejaVu Sans',sans-serif;fill:var(--ink);dominant-baseline:middle}
 .small{font-size:10px}.v0{--own:var(--v0)}.v1{--own:var(--v1)}.v2{--own:var(--v2)}
 .v3{--own:var(--v3)}.call{--own:var(--dim)}text.v0,text.v1,text.v2,text.v3{fill:var(--own)}
-text[transform]{translate:5px -7px}text.dim{fill:var(--dim)}text.badly{fill:var(--bad)}.lane{stroke:var(--line)}
+text[transform]{translate:5px -7px}
+text.dim{fill:var(--dim)}text.badly{fill:var(--bad)}.lane{stroke:var(--line)}
 .wall{stroke:var(--line);stroke-dasharray:3 3}.leg{stroke:var(--dim);stroke-width:3}
 .bar{fill:var(--step);fill-opacity:.18;stroke:var(--step);stroke-opacity:.45}
 .cut{stroke:var(--bad);stroke-width:2}.full{fill:var(--own)}.move,.step{fill:var(--step)}
