@@ -11,6 +11,9 @@ use Rattle.its_draw.specs.Draws.{DrawCauses, DrawSays, IsAgreed, IsPictureOf}
 pub agreed : (input line : List ℕ) → (h : CheckSays input status.Ok line) → IsAgreed input
 agreed input line h = subst (CheckSays input status.Ok) h.says.text_is h
 
+pub agreed_at : (input line : List ℕ) (s : Status) → s ≡ status.Ok → CheckSays input s line → IsAgreed input
+agreed_at input line s is h = agreed input line (subst (λ (t : Status). CheckSays input t line) is h)
+
 -- ---- of some bytes
 
 pub as_checked : (input text : List ℕ) (s : Status) → (s ≡ status.Ok → ⊥) → CheckSays input s text → DrawSays input s text

@@ -27,8 +27,15 @@ name_text sign = codes " href='#" ++ sign ++ codes "'/>\n"
 unfoldable pub inside_text : List ℕ → List ℕ
 inside_text words = codes ">" ++ words ++ codes "</text>\n"
 
+-- what moves words to the right, down, and turns them
+unfoldable pub right_text : ℕ → List ℕ
+right_text x = codes " transform='translate(" ++ decimal x ++ codes ","
+
+unfoldable pub down_text : ℕ → List ℕ
+down_text y = decimal y ++ codes ") rotate(-38)'"
+
 unfoldable pub turn_text : Point → List ℕ
-turn_text at = codes " transform='translate(" ++ decimal at.x ++ codes "," ++ decimal at.y ++ codes ") rotate(-38)'"
+turn_text at = right_text at.x ++ down_text at.y
 
 unfoldable pub count_text : List ℕ → ℕ → List ℕ
 count_text word number = codes ">" ++ word ++ codes " " ++ decimal number ++ codes "</text>\n"

@@ -12,11 +12,26 @@ use Rattle.its_draw.specs.declared.style.TheConstants.{STYLE}
 unfoldable pub size_text : ℕ → ℕ → List ℕ
 size_text w h = codes " width='" ++ decimal w ++ codes "' height='" ++ decimal h ++ codes "'"
 
+unfoldable pub across_text : ℕ → List ℕ
+across_text w = codes " viewBox='0 0 " ++ decimal w ++ codes " "
+
+unfoldable pub down_text : ℕ → List ℕ
+down_text h = decimal h ++ codes "'>\n"
+
 unfoldable pub box_text : ℕ → ℕ → List ℕ
-box_text w h = codes " viewBox='0 0 " ++ decimal w ++ codes " " ++ decimal h ++ codes "'>\n"
+box_text w h = across_text w ++ down_text h
+
+unfoldable pub name_text : List ℕ
+name_text = codes "<svg xmlns='http://www.w3.org/2000/svg'"
+
+unfoldable pub style_text : List ℕ
+style_text = STYLE.now
+
+unfoldable pub open_text : ℕ → ℕ → List ℕ
+open_text w h = name_text ++ size_text w h ++ box_text w h
 
 unfoldable pub head_text : Frame → List ℕ
-head_text f = codes "<svg xmlns='http://www.w3.org/2000/svg'" ++ size_text (width f) (height f) ++ box_text (width f) (height f) ++ STYLE.now
+head_text f = open_text (width f) (height f) ++ style_text
 
 -- the lanes of the first n threads, counted from 1
 abbrev pub threads_text : Frame → ℕ → List ℕ

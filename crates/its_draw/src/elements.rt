@@ -111,7 +111,22 @@ pub fn push_tilted(out: &mut String, class: &str, at: Point, words: &str) -> Res
 fn push_turn(out: &mut String, at: Point) -> Result<(), AllocError>
     ensures { OnOk result (string_bytes out.new ≡ string_bytes out.old ++ spec.turn_text at) }
 {
-    write!(out, " transform='translate({},{}) rotate(-38)'", at.x, at.y)
+    push_right(out, at.x)?;
+    push_down(out, at.y)
+}
+
+#[tactic(auto, unfolding(crate::specs::Elements::right_text))]
+fn push_right(out: &mut String, x: u64) -> Result<(), AllocError>
+    ensures { OnOk result (string_bytes out.new ≡ string_bytes out.old ++ spec.right_text x) }
+{
+    write!(out, " transform='translate({x},")
+}
+
+#[tactic(auto, unfolding(crate::specs::Elements::down_text))]
+fn push_down(out: &mut String, y: u64) -> Result<(), AllocError>
+    ensures { OnOk result (string_bytes out.new ≡ string_bytes out.old ++ spec.down_text y) }
+{
+    write!(out, "{y}) rotate(-38)'")
 }
 
 /// Adds a word with a number.

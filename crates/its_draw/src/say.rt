@@ -12,7 +12,6 @@ use event_script::{Move, ParseError, Script, parse_check};
 use its_answers::{Ending, Status, say_check};
 use its_history::{Trace, TraceError, parse_trace};
 use its_plain::MakeError;
-use its_types::Listed;
 use owned_machine::Machine;
 use std::alloc::{AllocError, Global};
 
@@ -38,7 +37,10 @@ fn draw(alloc: Global, input: &[u8]) -> Result<String, AllocError>
     ensures { IfOk result (λ text. IsPictureOf input.now (string_bytes text)) }
 {
     match parse_check(alloc, input) {
-        Ok(read) => draw_report(alloc, &read.script, read.report),
+        Ok(read) => {
+            let text = draw_report(alloc, &read.script, read.report)?;
+            Ok(text)
+        }
         Err(ParseError::NoMemory) => Err(AllocError),
         Err(ParseError::Fault(_)) => unreachable!(),
     }
@@ -50,15 +52,14 @@ fn draw_report(alloc: Global, script: &Script, report: &[u8]) -> Result<String, 
     ensures { IfOk result (λ text.
         IfOk (read_report script.now report.now) (λ legs. IsPicture legs (string_bytes text))) }
 {
-    let trace = match read_trace(alloc, script, report) {
-        Ok(trace) => trace,
-        Err(TraceError::NoMemory) => return Err(AllocError),
-        Err(TraceError::BadLine(_)) => Trace {
-            legs: Listed::new(alloc),
-        },
-    };
-    let text = draw_trace(alloc, script, &trace)?;
-    Ok(text)
+    match read_trace(alloc, script, report) {
+        Ok(trace) => {
+            let text = draw_trace(alloc, script, &trace)?;
+            Ok(text)
+        }
+        Err(TraceError::NoMemory) => Err(AllocError),
+        Err(TraceError::BadLine(_)) => Ok(String::new(alloc)),
+    }
 }
 
 /// The picture of a report's legs.

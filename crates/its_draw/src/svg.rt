@@ -42,10 +42,31 @@ fn push_head(out: &mut String, frame: &Frame) -> Result<(), AllocError>
     ensures { OnOk result
         (string_bytes out.new ≡ string_bytes out.old ++ spec.head_text frame.now) }
 {
-    let (width, height) = (frame.width(), frame.height());
-    out.push_str("<svg xmlns='http://www.w3.org/2000/svg'")?;
+    push_open(out, frame.width(), frame.height())?;
+    push_style(out)
+}
+
+#[tactic(auto, unfolding(crate::specs::Svg::open_text))]
+fn push_open(out: &mut String, width: u64, height: u64) -> Result<(), AllocError>
+    ensures { OnOk result
+        (string_bytes out.new ≡ string_bytes out.old ++ spec.open_text width height) }
+{
+    push_name(out)?;
     push_size(out, width, height)?;
-    push_box(out, width, height)?;
+    push_box(out, width, height)
+}
+
+#[tactic(auto, unfolding(crate::specs::Svg::name_text))]
+fn push_name(out: &mut String) -> Result<(), AllocError>
+    ensures { OnOk result (string_bytes out.new ≡ string_bytes out.old ++ spec.name_text) }
+{
+    out.push_str("<svg xmlns='http://www.w3.org/2000/svg'")
+}
+
+#[tactic(auto, unfolding(crate::specs::Svg::style_text))]
+fn push_style(out: &mut String) -> Result<(), AllocError>
+    ensures { OnOk result (string_bytes out.new ≡ string_bytes out.old ++ spec.style_text) }
+{
     out.push_str(STYLE)
 }
 
@@ -62,7 +83,22 @@ fn push_box(out: &mut String, width: u64, height: u64) -> Result<(), AllocError>
     ensures { OnOk result
         (string_bytes out.new ≡ string_bytes out.old ++ spec.box_text width height) }
 {
-    writeln!(out, " viewBox='0 0 {width} {height}'>")
+    push_across(out, width)?;
+    push_down(out, height)
+}
+
+#[tactic(auto, unfolding(crate::specs::Svg::across_text))]
+fn push_across(out: &mut String, width: u64) -> Result<(), AllocError>
+    ensures { OnOk result (string_bytes out.new ≡ string_bytes out.old ++ spec.across_text width) }
+{
+    write!(out, " viewBox='0 0 {width} ")
+}
+
+#[tactic(auto, unfolding(crate::specs::Svg::down_text))]
+fn push_down(out: &mut String, height: u64) -> Result<(), AllocError>
+    ensures { OnOk result (string_bytes out.new ≡ string_bytes out.old ++ spec.down_text height) }
+{
+    writeln!(out, "{height}'>")
 }
 
 fn push_lanes(out: &mut String, frame: &Frame) -> Result<(), AllocError>
