@@ -93,12 +93,7 @@ fn push_sent(
 }
 
 /// A message that passes its event's row.
-fn push_row(
-    out: &mut String,
-    frame: &Frame,
-    at: Point,
-    row: Option<u32>,
-) -> Result<(), AllocError>
+fn push_row(out: &mut String, frame: &Frame, at: Point, row: Option<u32>) -> Result<(), AllocError>
     ensures { OnOk result (string_bytes out.new
         ≡ string_bytes out.old ++ spec.row_text frame.now at row) }
 {
@@ -112,12 +107,7 @@ fn push_row(
 }
 
 /// A message is crossed at its event's row, if it has one.
-fn push_lost(
-    out: &mut String,
-    frame: &Frame,
-    at: Point,
-    row: Option<u32>,
-) -> Result<(), AllocError>
+fn push_lost(out: &mut String, frame: &Frame, at: Point, row: Option<u32>) -> Result<(), AllocError>
     ensures { OnOk result (string_bytes out.new
         ≡ string_bytes out.old ++ spec.lost_text frame.now at row) }
 {

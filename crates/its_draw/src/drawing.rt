@@ -1,7 +1,7 @@
 //! A picture as data.
 use crate::events::{Bar, Moved, Row};
-use crate::places::Frame;
 use crate::mark::Mark;
+use crate::places::Frame;
 use its_history::Text;
 use its_types::{Listed, Vcpu};
 

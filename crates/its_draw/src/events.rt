@@ -146,7 +146,9 @@ impl Rows {
     }
 
     fn is_open(&self, key: EventKey) -> bool {
-        self.bars.iter().any(|bar| bar.key == key && bar.to.is_none())
+        self.bars
+            .iter()
+            .any(|bar| bar.key == key && bar.to.is_none())
     }
 
     /// Ends the bars of events that aren't mapped any more, and notes what moved.
@@ -169,12 +171,7 @@ impl Rows {
         Ok(())
     }
 
-    fn begin(
-        &mut self,
-        key: EventKey,
-        event: Event,
-        from: Option<u32>,
-    ) -> Result<(), AllocError> {
+    fn begin(&mut self, key: EventKey, event: Event, from: Option<u32>) -> Result<(), AllocError> {
         let Some(row) = self.row_for(key)? else {
             return Ok(());
         };

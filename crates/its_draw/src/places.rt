@@ -64,9 +64,7 @@ impl Frame {
     pub fn height(&self) -> u64
         ensures { result ≡ spec.height self.now }
     {
-        88 + 28 * u64::from(self.threads)
-            + 20 * u64::from(self.rows)
-            + 20 * u64::from(self.lanes)
+        88 + 28 * u64::from(self.threads) + 20 * u64::from(self.rows) + 20 * u64::from(self.lanes)
     }
 
     /// The width.

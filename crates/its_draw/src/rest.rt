@@ -5,9 +5,7 @@ ghost use Rattle.its_draw.specs.Rest as spec;
 
 use crate::calls::{hue, op_name};
 use crate::drawing::{Pending, Wall};
-use crate::elements::{
-    push_event, push_line, push_numbered, push_rect, push_sign, push_words,
-};
+use crate::elements::{push_event, push_line, push_numbered, push_rect, push_sign, push_words};
 use crate::events::{Bar, BarEnd, Moved, Row};
 use crate::places::{Frame, Point, column_x, thread_y};
 use its_history::its_mark;
@@ -140,7 +138,15 @@ fn push_cut(out: &mut String, at: Point, to: Option<BarEnd>) -> Result<(), Alloc
     };
     push_line(out, "cut", from, down)?;
     match end.by {
-        Some(op) => push_words(out, "small dim", Point { x: at.x + 4, y: at.y }, op_name(op)),
+        Some(op) => push_words(
+            out,
+            "small dim",
+            Point {
+                x: at.x + 4,
+                y: at.y,
+            },
+            op_name(op),
+        ),
         None => Ok(()),
     }
 }
