@@ -1,5 +1,5 @@
 -- What a check that agrees says of the script that it read.
-use Rattle.std.proofs.Common.{◌≡◌, ℕ, List, Result, Ok, Err, IfOk, ap, sym, subst}
+use Rattle.std.proofs.Common.{◌≡◌, ℕ, List, [], ◌++◌, Result, Ok, Err, IfOk, ap, sym, subst, ◌∙◌}
 use Rattle.event_script.proofs.Bounds.{checked_scripts_fit}
 use Rattle.event_script.specs.Limits.{IsWithinLimits}
 use Rattle.event_script.specs.Script.{check_of}
@@ -11,6 +11,8 @@ use Rattle.its_plain.specs.declared.desc.DescFault.{DescFault}
 use Rattle.its_answers.proofs.Once.{made_once, not_both, same_ok}
 use Rattle.its_answers.specs.Checked.{read_report}
 use Rattle.its_history.specs.declared.trace.Leg.{Leg as LegLines}
+use Rattle.its_draw.specs.Replays.{told}
+use Rattle.its_draw.specs.declared.drawing.Shown.{Shown}
 use Rattle.its_draw.specs.Draws.{IsAgreed, IsPicture, IsPictureOf, StartsWell}
 
 abbrev IsWithin : Result (Script × List (List ℕ)) ScriptFault → Type 0
@@ -46,3 +48,7 @@ of_read legs read text is picture = subst (λ (r : Result (List LegLines) ℕ). 
 
 pub of_none : (read : Result (List LegLines) ℕ) (line : ℕ) (text : List ℕ) → read ≡ Err line → IfOk read (λ l. IsPicture l text)
 of_none read line text is = subst (λ (r : Result (List LegLines) ℕ). IfOk r (λ l. IsPicture l text)) (sym is) tt
+
+pub drawn_lines : (first shown calls : List Shown) (lines : List (ℕ × List ℕ)) → first ≡ [] → told shown ≡ told first ++ lines → calls ≡ shown
+    → told calls ≡ lines
+drawn_lines first shown calls lines none more is = ap told is ∙ (more ∙ ap (λ (s : List Shown). told s ++ lines) none)

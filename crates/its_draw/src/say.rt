@@ -5,7 +5,9 @@ ghost use Rattle.its_answers.specs.Checked.{read_report};
 ghost use Rattle.its_history.specs.Reading.{IsReadAs};
 ghost use Rattle.trace_check.specs.Verdicts.{copies_for, copies_of};
 ghost use Rattle.its_draw.specs.Draws.{DrawSays, IsAgreed, IsPicture, IsPictureOf, StartsWell};
+ghost use Rattle.its_draw.specs.Replays.{all_lines, told};
 
+use crate::drawing::Drawing;
 use crate::scene::Scene;
 use crate::svg::svg_text;
 use event_script::{Move, ParseError, Script, parse_check};
@@ -67,16 +69,31 @@ fn draw_trace(alloc: Global, script: &Script, trace: &Trace) -> Result<String, A
     requires { StartsWell script.now }
     ensures { IfOk result (λ text. IsPicture trace.now.legs (string_bytes text)) }
 {
-    let machine = match Machine::new(alloc, &script.desc) {
-        Ok(machine) => machine,
-        Err(MakeError::NoMemory) => return Err(AllocError),
-        Err(MakeError::Fault(_)) => unreachable!(),
-    };
-    let mut scene = Scene::new(alloc, machine)?;
-    scene.show(script, trace)?;
-    let drawing = scene.into_drawing();
+    let drawing = drawing_of(alloc, script, trace)?;
     let text = svg_text(alloc, &drawing)?;
     Ok(text)
+}
+
+/// What the picture of a report's legs shows.
+fn drawing_of(alloc: Global, script: &Script, trace: &Trace) -> Result<Drawing, AllocError>
+    requires { StartsWell script.now }
+    ensures { IfOk result (λ d. told d.calls ≡ all_lines trace.now.legs) }
+{
+    let machine = first_machine(alloc, script)?;
+    let mut scene = Scene::new(alloc, machine)?;
+    scene.show(script, trace)?;
+    Ok(scene.into_drawing())
+}
+
+/// The machine of a script, in its first state.
+fn first_machine(alloc: Global, script: &Script) -> Result<Machine, AllocError>
+    requires { StartsWell script.now }
+{
+    match Machine::new(alloc, &script.desc) {
+        Ok(machine) => Ok(machine),
+        Err(MakeError::NoMemory) => Err(AllocError),
+        Err(MakeError::Fault(_)) => unreachable!(),
+    }
 }
 
 /// Reads a report of a script.

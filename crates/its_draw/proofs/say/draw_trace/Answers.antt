@@ -1,8 +1,5 @@
-use Rattle.its_draw.proofs.Starts.{no_refusal}
 use Rattle.its_draw.proofs.say.draw_trace.Goals as goal
 
-pub new-requires : goal.new-requires
-new-requires c = c.requires.description
-
-pub unreachable-requires : goal.unreachable-requires
-unreachable-requires c = no_refusal c.args.script.now _ c.requires c.in-Err-Fault.ensures
+pub returns-in_ok-text : goal.returns-in_ok-text
+returns-in_ok-text c =
+    record { drawing = c.in_ok-drawing.drawing; lines_are = c.in_ok-drawing.ensures; text_is = c.in_ok-text.ensures }
