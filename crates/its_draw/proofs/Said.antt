@@ -17,18 +17,18 @@ agreed_at input line s is h = agreed input line (subst (λ (t : Status). CheckSa
 -- ---- of some bytes
 
 pub as_checked : (input text : List ℕ) (s : Status) → (s ≡ status.Ok → ⊥) → CheckSays input s text → DrawSays input s text
-as_checked input text status.Ok no h = absurd (no (λ i. status.Ok))
-as_checked input text status.ScriptRefused no h = h
-as_checked input text status.WordsRefused no h = h
-as_checked input text status.ReadFault no h = h
-as_checked input text status.WriteFault no h = h
-as_checked input text status.Memory no h = h
-as_checked input text status.MachineRefused no h = h
-as_checked input text status.MigrationRefused no h = h
-as_checked input text status.Spent no h = h
-as_checked input text status.TooLong no h = h
-as_checked input text status.TraceDiffers no h = h
-as_checked input text status.BadTrace no h = h
+as_checked input text status.Ok other h = absurd (other (λ i. status.Ok))
+as_checked input text status.ScriptRefused other h = h
+as_checked input text status.WordsRefused other h = h
+as_checked input text status.ReadFault other h = h
+as_checked input text status.WriteFault other h = h
+as_checked input text status.Memory other h = h
+as_checked input text status.MachineRefused other h = h
+as_checked input text status.MigrationRefused other h = h
+as_checked input text status.Spent other h = h
+as_checked input text status.TooLong other h = h
+as_checked input text status.TraceDiffers other h = h
+as_checked input text status.BadTrace other h = h
 
 -- ---- of a source
 

@@ -2,14 +2,21 @@
 use Rattle.std.proofs.Common.{◌≡◌, ℕ, List, [], ◌++◌, Result, Ok, Err, IfOk, ap, sym, subst, ◌∙◌}
 use Rattle.event_script.proofs.Bounds.{checked_scripts_fit}
 use Rattle.event_script.specs.Limits.{IsWithinLimits}
-use Rattle.event_script.specs.Script.{check_of}
+use Rattle.event_script.specs.Script.{check_of, FailsAs}
 use Rattle.event_script.specs.Text.{parts}
 use Rattle.event_script.specs.declared.fault.ScriptFault.{ScriptFault}
+use Rattle.event_script.specs.declared.fault.ParseError.{ParseError}
+use Rattle.event_script.specs.declared.fault.ParseError.TheVariants as parsing
 use Rattle.event_script.specs.declared.script.Script.{Script}
-use Rattle.its_plain.specs.Described.{IsFirstState, IsRefused}
+use Rattle.its_plain.specs.Described.{IsFirstState, IsMadeFrom, IsRefused}
 use Rattle.its_plain.specs.declared.desc.DescFault.{DescFault}
+use Rattle.its_plain.specs.declared.make.MakeError.{MakeError}
+use Rattle.its_plain.specs.declared.make.MakeError.TheVariants as making
 use Rattle.its_answers.proofs.Once.{made_once, not_both, same_ok}
 use Rattle.its_answers.specs.Checked.{read_report}
+use Rattle.its_history.specs.Reading.{IsReadAs}
+use Rattle.its_history.specs.declared.reading.TraceError.{TraceError}
+use Rattle.its_history.specs.declared.reading.TraceError.TheVariants as reading
 use Rattle.its_history.specs.declared.trace.Leg.{Leg as LegLines}
 use Rattle.its_draw.specs.Replays.{told}
 use Rattle.its_draw.specs.declared.drawing.Shown.{Shown}
@@ -52,3 +59,16 @@ of_none read line text is = subst (λ (r : Result (List LegLines) ℕ). IfOk r (
 pub drawn_lines : (first shown calls : List Shown) (lines : List (ℕ × List ℕ)) → first ≡ [] → told shown ≡ told first ++ lines → calls ≡ shown
     → told calls ≡ lines
 drawn_lines first shown calls lines none more is = ap told is ∙ (more ∙ ap (λ (s : List Shown). told s ++ lines) none)
+
+-- ---- what a pattern finds
+
+pub no_fault_as : (input : List ℕ) (e : ParseError) (fault : ScriptFault) → e ≡ parsing.Fault fault → IsAgreed input → FailsAs e (check_of input) → ⊥
+no_fault_as input e fault is h none = no_fault input fault h (subst (λ (x : ParseError). FailsAs x (check_of input)) is none)
+
+pub no_refusal_as : (script : Script) (e : MakeError) (fault : DescFault) → e ≡ making.Fault fault → StartsWell script → IsMadeFrom script.desc (Err e)
+    → ⊥
+no_refusal_as script e fault is h none = no_refusal script fault h (subst (λ (x : MakeError). IsMadeFrom script.desc (Err x)) is none)
+
+pub of_none_as : (read : Result (List LegLines) ℕ) (e : TraceError) (line : ℕ) (text : List ℕ) → e ≡ reading.BadLine line → IsReadAs (Err e) read
+    → IfOk read (λ l. IsPicture l text)
+of_none_as read e line text is none = of_none read line text (subst (λ (x : TraceError). IsReadAs (Err x) read) is none)

@@ -1,5 +1,5 @@
 use Rattle.its_draw.proofs.say.draw_trace.Goals as goal
 
-pub returns-in_ok-text : goal.returns-in_ok-text
-returns-in_ok-text c =
+pub returns : goal.returns
+returns c =
     record { drawing = c.in_ok-drawing.drawing; lines_are = c.in_ok-drawing.ensures; text_is = c.in_ok-text.ensures }

@@ -1,5 +1,5 @@
 use Rattle.its_draw.proofs.Starts.{drawn_lines}
 use Rattle.its_draw.proofs.say.drawing_of.Goals as goal
 
-pub returns-in_ok-show : goal.returns-in_ok-show
-returns-in_ok-show c = drawn_lines _ _ _ _ c.in_ok-scene.ensures c.in_ok-show.ensures c.into_drawing.ensures
+pub returns : goal.returns
+returns c = drawn_lines _ _ _ _ c.in_ok-scene.ensures c.in_ok-show.ensures c.into_drawing.ensures
