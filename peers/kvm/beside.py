@@ -81,7 +81,7 @@ class Maps:
         elif name in ("mapd", "unmapd"):
             self.events = {key: icid for key, icid in self.events.items() if key[0] != values[0]}
             (self.devices.add if name == "mapd" else self.devices.discard)(values[0])
-        return f"ran {name}"
+        return f"ran {name.removeprefix('un')}"
 
 
 class Call:

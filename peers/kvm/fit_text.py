@@ -12,6 +12,7 @@ import layout
 
 BUSY = 16           # EBUSY: a save while a processor is inside
 MOST_CHOICES = 256  # of answers that KVM may have meant
+PARTS = (0, 0.25, 0.5, 0.75, 1)     # of a call's time, at which it may have taken effect
 
 
 class Told:
@@ -25,14 +26,15 @@ class Told:
 
 
 class Line:
-    """A line of the trace: a call with its replies, of which KVM gave one."""
+    """A line of the trace: a call with its replies, of which KVM gave one, and those that are likely."""
 
-    def __init__(self, thread, begin, end, call, replies):
+    def __init__(self, thread, begin, end, call, replies, likely=()):
         self.thread = thread
         self.begin = begin
         self.end = end
         self.call = call
         self.replies = replies
+        self.likely = likely or [replies[0]] * len(PARTS) ** 2
 
     def text(self, reply):
         return f"1.{self.thread + 1} {self.begin} {self.end} {self.call} -> {reply}"
@@ -50,8 +52,13 @@ def kicked(thread, call, told, reply):
             Line(thread, told.begin, told.end, "step", [reply])]
 
 
+def at(one, part):
+    return one.begin + part * (one.end - one.begin)
+
+
 def meant(round_, call, told, kicks):
-    """The replies that KVM may have meant with a signal's answer, by the commands that went before or beside it."""
+    """The replies that KVM may have meant with a signal's answer, by the commands that went before or beside it, and
+    those that are likely: as if all commands, and all signals, took effect at one part of their time."""
     first = sum(one.end < told.begin for one in kicks)
     last = sum(one.begin <= told.end for one in kicks)
     answers = [state.answer(*call.more) for state in round_.states]
@@ -60,7 +67,9 @@ def meant(round_, call, told, kicks):
     word = "delivered" if told.answer else "dropped"
     here = [answer for answer in answers[first:last + 1] if answer.startswith(word)]
     anywhere = [answer for answer in answers if answer.startswith(word)] or [f"{word} no-event"]
-    return list(dict.fromkeys(here or anywhere))
+    replies = list(dict.fromkeys(here or anywhere))
+    likely = [answers[sum(at(one, part) <= at(told, own) for one in kicks)] for part in PARTS for own in PARTS]
+    return replies, [answer if answer in replies else replies[0] for answer in likely]
 
 
 def lines(round_, told):
@@ -71,7 +80,7 @@ def lines(round_, told):
         for call, one in zip(calls, answers, strict=True):
             if call.kind == "signal":
                 of_thread.append(Line(thread, one.begin, one.end, "signal {} {}".format(*call.more),
-                                      meant(round_, call, one, told[2])))
+                                      *meant(round_, call, one, told[2])))
             elif call.kind == "kick":
                 if one.answer:
                     raise Strange(f"a kick was answered {one.answer}")
@@ -98,6 +107,13 @@ def beside(round_, told):
         if thread < other_thread and one.begin <= other.end and other.begin <= one.end)
 
 
+def choices(every):
+    """Which reply each line may have, the likely ones first, each choice once."""
+    likely = [tuple(line.likely[i] for line in every) for i in range(len(PARTS) ** 2)]
+    all_of_them = itertools.islice(itertools.product(*(line.replies for line in every)), MOST_CHOICES)
+    return dict.fromkeys([*likely, *all_of_them])
+
+
 def texts(round_, found, pending):
     """The inputs of `its fit`, one for each choice of what KVM may have meant."""
     shape = round_.shape
@@ -107,5 +123,5 @@ def texts(round_, found, pending):
     script = [*shape.description(round_.image().description()), *body, "end", "trace"]
     every = [line for of_thread in found for line in of_thread]
     last = [f"vcpu {v} pending {' '.join(map(str, lpis)) or 'none'}" for v, lpis in enumerate(pending)]
-    for replies in itertools.islice(itertools.product(*(line.replies for line in every)), MOST_CHOICES):
+    for replies in choices(every):
         yield "\n".join([*script, *(line.text(reply) for line, reply in zip(every, replies)), *last, ""])
