@@ -1,108 +1,8 @@
 //! What came of a call: what the machine answered of what the call concerns, before and after it.
-use call_facts::{IdleCause, LpiState, PairState, Waiting, WriteRule};
+use call_facts::{IdleCause, LpiState, Waiting};
 use its_command::Command;
-use its_types::{Addr, Bases, Device, DeviceId, EventId, Icid, Vcpu};
-
-/// A message, or a command that names an event.
-#[derive(Clone, Copy)]
-pub struct EventFact {
-    /// The number of the translator.
-    pub its: u8,
-    /// The device.
-    pub dev: DeviceId,
-    /// Its event.
-    pub ev: EventId,
-    /// What the maps said of both before.
-    pub before: PairState,
-    /// And after.
-    pub after: PairState,
-    /// How the event's LPI stood before, where it then went.
-    pub was: Option<LpiState>,
-    /// How it stands after, where it goes; where it goes nowhere any more, where it went.
-    pub is: Option<LpiState>,
-}
-
-/// A command that maps or unmaps a device.
-#[derive(Clone, Copy)]
-pub struct DeviceFact {
-    /// The number of the translator.
-    pub its: u8,
-    /// The device.
-    pub dev: DeviceId,
-    /// What it was mapped to.
-    pub before: Option<Device>,
-    /// What it is mapped to.
-    pub after: Option<Device>,
-    /// How many events it had.
-    pub events: u64,
-}
-
-/// A command that maps or unmaps a collection.
-#[derive(Clone, Copy)]
-pub struct CollectionFact {
-    /// The number of the translator.
-    pub its: u8,
-    /// The collection.
-    pub icid: Icid,
-    /// Where it went.
-    pub before: Option<Vcpu>,
-    /// Where it goes.
-    pub after: Option<Vcpu>,
-    /// How many LPIs were pending where it went.
-    pub had: usize,
-    /// How many are pending there after.
-    pub has: usize,
-}
-
-/// How much a translator has mapped.
-#[derive(Clone, Copy, PartialEq, Eq)]
-pub struct Counts {
-    /// Devices.
-    pub devices: u64,
-    /// Their events.
-    pub events: u64,
-    /// Collections.
-    pub collections: u64,
-}
-
-impl Counts {
-    /// Nothing.
-    pub const NONE: Counts = Counts {
-        devices: 0,
-        events: 0,
-        collections: 0,
-    };
-}
-
-/// A write of a translator's register.
-#[derive(Clone, Copy)]
-pub struct RegisterFact {
-    /// What becomes of such a write; none where there is no such translator.
-    pub rule: Option<WriteRule>,
-    /// What the register read before.
-    pub before: u64,
-    /// And after.
-    pub after: u64,
-    /// What was mapped before.
-    pub had: Counts,
-    /// And after.
-    pub has: Counts,
-}
-
-/// A write of an LPI register.
-#[derive(Clone, Copy)]
-pub struct LpiRegisterFact {
-    /// The registers before.
-    pub before: Option<Bases>,
-    /// And after.
-    pub after: Option<Bases>,
-    /// What the register reads after.
-    pub value: u64,
-    /// How many LPIs were pending before.
-    pub had: usize,
-    /// How many are pending after.
-    pub has: usize,
-}
+use its_types::{Addr, Intid, Vcpu};
+use told_words::{Access, CollectionFact, DeviceFact, EventFact, LpiRegisterFact, RegisterFact};
 
 /// What came of a call, beside its reply.
 #[derive(Clone, Copy)]
@@ -115,20 +15,108 @@ pub enum Fact {
     Device(DeviceFact),
     /// A command that maps or unmaps a collection.
     Collection(CollectionFact),
-    /// How many LPIs were pending at the processor from which all go to another.
-    Moved(usize),
-    /// Why no command was taken, and where the next one would stand in the queue.
-    Idle(Option<IdleCause>, u64),
+    /// A command by which what is pending at a processor goes to another.
+    Moved(MovedFact),
+    /// A step that took no command.
+    Idle(IdleFact),
     /// What waited at the processor that acknowledges.
-    Waiting(Waiting),
+    Waiting(WaitingFact),
     /// How the LPI stood that is claimed.
-    Claimed(Option<LpiState>),
-    /// What the 64-bit register reads of which a part is read, or the 32-bit one.
-    Read(u64),
+    Claimed(ClaimFact),
+    /// A read of a translator's register.
+    Read(ReadFact),
+    /// A read of an LPI register.
+    LpiRead(LpiReadFact),
     /// A write of a translator's register.
-    Written(RegisterFact),
+    Written(WrittenFact),
     /// A write of an LPI register.
-    LpiWritten(LpiRegisterFact),
+    LpiWritten(LpiWrittenFact),
+}
+
+/// What was pending at a processor.
+#[derive(Clone, Copy)]
+pub struct MovedFact {
+    /// Its number.
+    pub from: u64,
+    /// How many LPIs.
+    pub count: u64,
+}
+
+/// A step that took no command.
+#[derive(Clone, Copy)]
+pub struct IdleFact {
+    /// The number of the translator.
+    pub its: u8,
+    /// Why, if none waits that can be taken.
+    pub cause: Option<IdleCause>,
+    /// What GITS_CREADR read.
+    pub place: u64,
+}
+
+/// What waited at a processor.
+#[derive(Clone, Copy)]
+pub struct WaitingFact {
+    /// Which one.
+    pub vcpu: Vcpu,
+    /// What waited.
+    pub waiting: Waiting,
+    /// Whether LPIs were on.
+    pub on: bool,
+}
+
+/// An LPI that is claimed.
+#[derive(Clone, Copy)]
+pub struct ClaimFact {
+    /// At which processor.
+    pub vcpu: Vcpu,
+    /// Which one.
+    pub intid: Intid,
+    /// How it stood, if there is such a processor and the number is an LPI's.
+    pub state: Option<LpiState>,
+}
+
+/// A read of a translator's register.
+#[derive(Clone, Copy)]
+pub struct ReadFact {
+    /// The number of the translator.
+    pub its: u8,
+    /// Where the read begins.
+    pub off: u32,
+    /// What the 64-bit register reads of which it is a part, or the 32-bit one.
+    pub value: u64,
+}
+
+/// A read of an LPI register.
+#[derive(Clone, Copy)]
+pub struct LpiReadFact {
+    /// At which processor.
+    pub vcpu: Vcpu,
+    /// Where the read begins.
+    pub off: u32,
+    /// What the 64-bit register reads of which it is a part, or the 32-bit one.
+    pub value: u64,
+}
+
+/// A write of a translator's register.
+#[derive(Clone, Copy)]
+pub struct WrittenFact {
+    /// The number of the translator.
+    pub its: u8,
+    /// What is written, and where.
+    pub access: Access,
+    /// What came of it.
+    pub fact: RegisterFact,
+}
+
+/// A write of an LPI register.
+#[derive(Clone, Copy)]
+pub struct LpiWrittenFact {
+    /// At which processor.
+    pub vcpu: Vcpu,
+    /// What is written, and where.
+    pub access: Access,
+    /// What came of it.
+    pub fact: LpiRegisterFact,
 }
 
 /// The command that a step took.

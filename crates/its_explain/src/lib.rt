@@ -2,13 +2,12 @@
 //! what may stand there, or each call with a sentence.
 #![tactic(auto)]
 
-mod acks;
 mod book;
 mod call_lines;
 mod commands;
 mod context;
 mod entries;
-mod event_commands;
+mod event_looks;
 mod explain;
 mod facts;
 mod faults;
@@ -22,14 +21,11 @@ mod many;
 mod missing;
 mod order;
 mod refused;
-mod register_values;
-mod register_writes;
 mod replayed;
 mod replies;
 mod restore_fault;
 mod script_fault;
 mod show;
-mod signals;
 mod slot_fault;
 mod sources;
 mod story;

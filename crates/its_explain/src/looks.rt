@@ -1,15 +1,18 @@
 //! Looks at a machine before a call and after it, from which a fact is made.
+use crate::event_looks::EventLook;
 use crate::facts::{
-    CollectionFact, Counts, DeviceFact, EventFact, Fact, LpiRegisterFact, RegisterFact, Taken,
+    ClaimFact, Fact, IdleFact, LpiReadFact, LpiWrittenFact, MovedFact, ReadFact, Taken,
+    WaitingFact, WrittenFact,
 };
 use crate::replayed::Replayed;
-use call_facts::{LpiState, PairState};
+use call_facts::WriteRule;
 use cmd_exec::{Met, meet};
 use its_command::Command;
 use its_maps::Maps;
 use its_plain::{Call, Route};
-use its_types::{Bases, Device, DeviceId, EventId, Icid, Target, Vcpu};
+use its_types::{Bases, Device, DeviceId, EventId, Icid, Vcpu};
 use std::alloc::AllocError;
+use told_words::{Access, CollectionFact, Counts, DeviceFact, LpiRegisterFact, RegisterFact};
 
 /// What a call concerns, and what the machine answered of it before.
 #[derive(Clone, Copy)]
@@ -19,9 +22,9 @@ pub enum Look {
     /// A device and its event, with how its LPI stood.
     Event(EventLook),
     /// A device: what it was mapped to, and how many events it had.
-    Device(u8, DeviceId, Option<Device>, u64),
+    Device(DeviceLook),
     /// A collection: where it went, and how many LPIs were pending there.
-    Collection(u8, Icid, Option<Vcpu>, usize),
+    Collection(CollectionLook),
     /// A register that is written, what it read, and what was mapped.
     Register(RegisterLook),
     /// The same of an LPI register.
@@ -30,31 +33,43 @@ pub enum Look {
     Known(Fact),
 }
 
-/// A device and one of its events, before a call.
+/// A device, before a call.
 #[derive(Clone, Copy)]
-pub struct EventLook {
+pub struct DeviceLook {
     its: u8,
     dev: DeviceId,
-    ev: EventId,
-    pair: PairState,
-    lpi: Option<LpiState>,
+    before: Option<Device>,
+    events: u64,
+}
+
+/// A collection, before a call.
+#[derive(Clone, Copy)]
+pub struct CollectionLook {
+    its: u8,
+    icid: Icid,
+    before: Option<Vcpu>,
+    had: u64,
 }
 
 /// A register before it is written.
 #[derive(Clone, Copy)]
 pub struct RegisterLook {
     its: u8,
-    off: u32,
-    fact: RegisterFact,
+    access: Access,
+    rule: Option<WriteRule>,
+    cbaser: u64,
+    baser0: u64,
+    baser1: u64,
+    had: Counts,
 }
 
 /// An LPI register before it is written.
 #[derive(Clone, Copy)]
 pub struct LpiRegisterLook {
     vcpu: Vcpu,
-    off: u32,
+    access: Access,
     bases: Option<Bases>,
-    had: usize,
+    had: u64,
 }
 
 impl Replayed {
@@ -81,47 +96,59 @@ impl Replayed {
             } => Ok(self.look_at_event(its, dev, ev)),
             Call::Step { its } => self.look_at_step(its, taken),
             Call::Take(vcpu) | Call::Show(vcpu) | Call::Best { vcpu, .. } => {
-                Ok(Look::Known(Fact::Waiting(self.waiting(vcpu)?)))
+                self.look_at_waiting(vcpu)
             }
             Call::Claim { vcpu, intid } => {
-                let state = self.lpi(Some(Target { vcpu, intid }));
-                Ok(Look::Known(Fact::Claimed(state)))
+                let state = self.lpi(vcpu, intid);
+                Ok(Look::Known(Fact::Claimed(ClaimFact { vcpu, intid, state })))
             }
             Call::ReadReg { its, off, .. } => {
-                Ok(Look::Known(Fact::Read(self.register(its, off))))
+                let value = self.register(its, off);
+                Ok(Look::Known(Fact::Read(ReadFact { its, off, value })))
             }
             Call::ReadGicr { vcpu, off, .. } => {
-                Ok(Look::Known(Fact::Read(self.lpi_register(vcpu, off)?)))
+                let value = self.lpi_register(vcpu, off)?;
+                Ok(Look::Known(Fact::LpiRead(LpiReadFact { vcpu, off, value })))
             }
             Call::WriteReg {
                 its,
                 off,
                 size,
                 value,
-            } => Ok(self.look_at_register(its, off, size, value)),
-            Call::WriteGicr { vcpu, off, .. } => self.look_at_lpi_register(vcpu, off),
+            } => Ok(self.look_at_register(its, Access { off, size, value })),
+            Call::WriteGicr {
+                vcpu,
+                off,
+                size,
+                value,
+            } => self.look_at_lpi_register(vcpu, Access { off, size, value }),
             Call::Poke { .. } | Call::Peek { .. } | Call::Save | Call::Copy => Ok(Look::Nothing),
             Call::Dma { .. } => Ok(Look::Nothing),
         }
     }
 
+    fn look_at_waiting(&self, vcpu: Vcpu) -> Result<Look, AllocError> {
+        Ok(Look::Known(Fact::Waiting(WaitingFact {
+            vcpu,
+            waiting: self.waiting(vcpu)?,
+            on: self.on(vcpu),
+        })))
+    }
+
     fn look_at_event(&self, its: u8, dev: DeviceId, ev: EventId) -> Look {
-        let pair = self.pair(its, dev, ev);
-        Look::Event(EventLook {
-            its,
-            dev,
-            ev,
-            pair,
-            lpi: self.lpi(pair.spot()),
-        })
+        Look::Event(self.event_look(its, dev, ev))
     }
 
     fn look_at_step(&self, its: u8, taken: Option<&Taken>) -> Result<Look, AllocError> {
         match taken {
             Some(taken) => self.look_at_command(its, &taken.command),
             None => {
-                let place = self.register(its, 0x90);
-                Ok(Look::Known(Fact::Idle(self.idle(its), place)))
+                let fact = IdleFact {
+                    its,
+                    cause: self.idle(its),
+                    place: self.register(its, 0x90),
+                };
+                Ok(Look::Known(Fact::Idle(fact)))
             }
         }
     }
@@ -135,18 +162,14 @@ impl Replayed {
             | Command::Mapi { dev, ev, .. }
             | Command::Inv { dev, ev }
             | Command::Discard { dev, ev } => Ok(self.look_at_event(its, dev, ev)),
-            Command::Mapd { dev, .. } => {
-                let before = self.device(its, dev);
-                Ok(Look::Device(its, dev, before, self.count_events(its, dev)))
-            }
-            Command::Mapc { icid, .. } => {
-                let before = self.collection(its, icid);
-                let had = self.count_pending(place_of(before))?;
-                Ok(Look::Collection(its, icid, before, had))
-            }
+            Command::Mapd { dev, .. } => Ok(self.look_at_device(its, dev)),
+            Command::Mapc { icid, .. } => self.look_at_collection(its, icid),
             Command::Movall { from, .. } => {
                 let count = self.count_pending(from.get() as usize)?;
-                Ok(Look::Known(Fact::Moved(count)))
+                Ok(Look::Known(Fact::Moved(MovedFact {
+                    from: from.get(),
+                    count,
+                })))
             }
             Command::Invall { .. } | Command::Sync { .. } | Command::Unknown(_) => {
                 Ok(Look::Nothing)
@@ -154,26 +177,42 @@ impl Replayed {
         }
     }
 
-    fn look_at_register(&self, its: u8, off: u32, size: u8, value: u64) -> Look {
-        let before = self.register(its, off);
-        let had = self.counts(its);
-        Look::Register(RegisterLook {
+    fn look_at_device(&self, its: u8, dev: DeviceId) -> Look {
+        Look::Device(DeviceLook {
             its,
-            off,
-            fact: RegisterFact {
-                rule: self.rule(its, off, size, value),
-                before,
-                after: before,
-                had,
-                has: had,
-            },
+            dev,
+            before: self.device(its, dev),
+            events: self.count_events(its, dev),
         })
     }
 
-    fn look_at_lpi_register(&self, vcpu: Vcpu, off: u32) -> Result<Look, AllocError> {
+    fn look_at_collection(&self, its: u8, icid: Icid) -> Result<Look, AllocError> {
+        let before = self.collection(its, icid);
+        Ok(Look::Collection(CollectionLook {
+            its,
+            icid,
+            before,
+            had: self.count_pending(place_of(before))?,
+        }))
+    }
+
+    fn look_at_register(&self, its: u8, access: Access) -> Look {
+        let had = self.counts(its);
+        Look::Register(RegisterLook {
+            its,
+            access,
+            rule: self.rule(its, access.off, access.size, access.value),
+            cbaser: self.register(its, 0x80),
+            baser0: self.register(its, 0x100),
+            baser1: self.register(its, 0x108),
+            had,
+        })
+    }
+
+    fn look_at_lpi_register(&self, vcpu: Vcpu, access: Access) -> Result<Look, AllocError> {
         Ok(Look::LpiRegister(LpiRegisterLook {
             vcpu,
-            off,
+            access,
             bases: self.bases(vcpu),
             had: self.count_pending(usize::from(vcpu.0))?,
         }))
@@ -185,67 +224,63 @@ impl Replayed {
             Look::Nothing => Ok(Fact::None),
             Look::Known(fact) => Ok(fact),
             Look::Event(look) => Ok(Fact::Event(self.event_fact(&look))),
-            Look::Device(its, dev, before, events) => Ok(Fact::Device(DeviceFact {
-                its,
-                dev,
-                before,
-                after: self.device(its, dev),
-                events,
-            })),
-            Look::Collection(its, icid, before, had) => Ok(Fact::Collection(CollectionFact {
-                its,
-                icid,
-                before,
-                after: self.collection(its, icid),
-                had,
-                has: self.count_pending(place_of(before))?,
-            })),
-            Look::Register(look) => Ok(Fact::Written(RegisterFact {
-                after: self.register(look.its, look.off),
-                has: self.counts(look.its),
-                ..look.fact
-            })),
+            Look::Device(look) => Ok(Fact::Device(self.device_fact(&look))),
+            Look::Collection(look) => self.collection_fact(&look),
+            Look::Register(look) => Ok(Fact::Written(self.register_fact(&look))),
             Look::LpiRegister(look) => self.lpi_register_fact(&look),
         }
     }
 
-    fn event_fact(&self, look: &EventLook) -> EventFact {
-        let after = self.pair(look.its, look.dev, look.ev);
-        let spot = match after.spot() {
-            Some(spot) => Some(spot),
-            None => look.pair.spot(),
-        };
-        EventFact {
+    fn device_fact(&self, look: &DeviceLook) -> DeviceFact {
+        DeviceFact {
             its: look.its,
             dev: look.dev,
-            ev: look.ev,
-            before: look.pair,
-            after,
-            was: look.lpi,
-            is: self.lpi(spot),
+            before: look.before,
+            after: self.device(look.its, look.dev),
+            events: look.events,
+        }
+    }
+
+    fn collection_fact(&self, look: &CollectionLook) -> Result<Fact, AllocError> {
+        Ok(Fact::Collection(CollectionFact {
+            its: look.its,
+            icid: look.icid,
+            before: look.before,
+            after: self.collection(look.its, look.icid),
+            had: look.had,
+            has: self.count_pending(place_of(look.before))?,
+        }))
+    }
+
+    fn register_fact(&self, look: &RegisterLook) -> WrittenFact {
+        WrittenFact {
+            its: look.its,
+            access: look.access,
+            fact: RegisterFact {
+                rule: look.rule,
+                after: self.register(look.its, look.access.off),
+                cbaser: look.cbaser,
+                baser0: look.baser0,
+                baser1: look.baser1,
+                had: look.had,
+                has: self.counts(look.its),
+            },
         }
     }
 
     fn lpi_register_fact(&mut self, look: &LpiRegisterLook) -> Result<Fact, AllocError> {
-        Ok(Fact::LpiWritten(LpiRegisterFact {
-            before: look.bases,
-            after: self.bases(look.vcpu),
-            value: self.lpi_register(look.vcpu, look.off)?,
-            had: look.had,
-            has: self.count_pending(usize::from(look.vcpu.0))?,
+        Ok(Fact::LpiWritten(LpiWrittenFact {
+            vcpu: look.vcpu,
+            access: look.access,
+            fact: LpiRegisterFact {
+                before: look.bases,
+                after: self.bases(look.vcpu),
+                value: self.lpi_register(look.vcpu, look.access.off)?,
+                lpi_bits: self.shape().lpi_bits,
+                had: look.had,
+                has: self.count_pending(usize::from(look.vcpu.0))?,
+            },
         }))
-    }
-
-    /// What a device is mapped to.
-    pub fn device(&self, its: u8, dev: DeviceId) -> Option<Device> {
-        let translator = self.translator(its)?;
-        translator.maps.device(dev)
-    }
-
-    /// Where a collection goes.
-    pub fn collection(&self, its: u8, icid: Icid) -> Option<Vcpu> {
-        let translator = self.translator(its)?;
-        translator.maps.collection(icid)
     }
 
     /// How many events of a device are mapped.

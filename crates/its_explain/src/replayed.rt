@@ -2,15 +2,20 @@
 //! value says nothing here: what a look at it is worth stands at the calls of views.rt.
 ghost use Rattle.its_plain.specs.Machine.{IsDescription};
 
-use crate::views::{bases_seen, idle_seen, lpi_seen, pair_seen, rule_seen, waiting_seen};
+use crate::event_looks::{EventLook, event_fact, look_at_event};
+use crate::views::{
+    bases_seen, collection_seen, device_seen, idle_seen, lpi_seen, on_seen, pair_seen,
+    register_seen, rule_seen, waiting_seen,
+};
 use call_facts::{IdleCause, LpiState, PairState, Waiting, WriteRule};
 use guest_windows::Memory;
 use its_plain::{Call, Desc, MakeError, Reply, SaveError};
-use its_types::{Bases, DeviceId, EventId, Intid, Shape, Target, Vcpu};
+use its_types::{Bases, Device, DeviceId, EventId, Icid, Intid, Shape, Vcpu};
 use owned_machine::Machine;
 use owned_parts::TranslatorRef;
 use std::alloc::{AllocError, Global};
 use std::marker::Model;
+use told_words::EventFact;
 
 /// A machine, with the memory that its calls take.
 #[derive(Drop)]
@@ -49,9 +54,9 @@ impl Replayed {
     }
 
     /// How many LPIs are pending at a virtual processor.
-    pub fn count_pending(&self, vcpu: usize) -> Result<usize, AllocError> {
+    pub fn count_pending(&self, vcpu: usize) -> Result<u64, AllocError> {
         match self.pending(vcpu)? {
-            Some(lpis) => Ok(lpis.len()),
+            Some(lpis) => Ok(lpis.len() as u64),
             None => Ok(0),
         }
     }
@@ -86,10 +91,34 @@ impl Replayed {
         pair_seen(self.machine.parts(), its, dev, ev)
     }
 
-    /// How an LPI stands where it goes, if it goes anywhere.
-    pub fn lpi(&self, spot: Option<Target>) -> Option<LpiState> {
-        let Target { vcpu, intid } = spot?;
+    /// What a device is mapped to.
+    pub fn device(&self, its: u8, dev: DeviceId) -> Option<Device> {
+        device_seen(self.machine.parts(), its, dev)
+    }
+
+    /// Where a collection goes.
+    pub fn collection(&self, its: u8, icid: Icid) -> Option<Vcpu> {
+        collection_seen(self.machine.parts(), its, icid)
+    }
+
+    /// A look at an event, before a call.
+    pub fn event_look(&self, its: u8, dev: DeviceId, ev: EventId) -> EventLook {
+        look_at_event(self.machine.parts(), its, dev, ev)
+    }
+
+    /// The fact of an event at which this look was taken before the call.
+    pub fn event_fact(&self, look: &EventLook) -> EventFact {
+        event_fact(self.machine.parts(), look)
+    }
+
+    /// How an LPI stands at a virtual processor.
+    pub fn lpi(&self, vcpu: Vcpu, intid: Intid) -> Option<LpiState> {
         lpi_seen(self.machine.parts(), vcpu, intid)
+    }
+
+    /// Whether LPIs are on at a virtual processor.
+    pub fn on(&self, vcpu: Vcpu) -> bool {
+        on_seen(self.machine.parts(), Some(vcpu))
     }
 
     /// What waits at a virtual processor.
@@ -114,10 +143,7 @@ impl Replayed {
 
     /// What the 64-bit register of a translator reads that has an offset, or the 32-bit one.
     pub fn register(&self, its: u8, off: u32) -> u64 {
-        match self.translator(its) {
-            Some(translator) => read_whole(translator, off),
-            None => 0,
-        }
+        register_seen(self.machine.parts(), its, off).unwrap_or(0)
     }
 
     /// The same of the LPI registers of a virtual processor.
@@ -128,13 +154,5 @@ impl Replayed {
             Reply::Value(value) => Ok(value),
             _ => Ok(0),
         }
-    }
-}
-
-fn read_whole(translator: TranslatorRef<'_>, off: u32) -> u64 {
-    let regs = translator.regs;
-    match off {
-        0x0 | 0x4 | 0xffe8 => regs.read(off, 4),
-        _ => regs.read(off & !7, 8),
     }
 }

@@ -1,16 +1,15 @@
 //! What came of a call, in a sentence.
-use crate::acks::push_ack;
 use crate::commands::push_effect;
 use crate::facts::Fact;
 use crate::refused::push_reason;
-use crate::register_values::{push_lpi_value, push_translator_value};
-use crate::register_writes::{Access, push_lpi_write, push_write};
-use crate::signals::push_signal;
-use crate::sources::{Sources, push_count};
-use call_facts::IdleCause;
+use crate::sources::Sources;
 use its_plain::{Call, Reply, Route, StepReply};
 use std::alloc::AllocError;
 use std::fmt::Write;
+use told_words::{
+    Asked, push_count, push_in_hexadecimal, push_lpi_value, push_lpi_write, push_numbered,
+    push_translator_value, push_write, tell_ack, tell_claim, tell_idle, tell_message,
+};
 
 /// Adds what came of a call.
 pub fn push_reply(
@@ -20,8 +19,8 @@ pub fn push_reply(
     reply: &Reply,
 ) -> Result<(), AllocError> {
     match *reply {
-        Reply::Signal(signal) => push_signal(out, sources, signal),
-        Reply::Ack(ack) => push_ack(out, sources, call, ack),
+        Reply::Signal(_) => push_signal(out, sources),
+        Reply::Ack(_) => push_ack(out, sources, call),
         Reply::Step(step) => push_step(out, sources, step),
         Reply::Outside => push_outside(out, call),
         Reply::SaveFault(fault) => write!(
@@ -30,7 +29,7 @@ pub fn push_reply(
         ),
         Reply::Saved => out.push_str("all tables are written to guest memory"),
         Reply::Copied(pages) => {
-            push_count(out, pages, "page")?;
+            push_count(out, "", pages, "page")?;
             out.push_str(" written since the last copy, copied to the second memory")
         }
         Reply::NoRequester => out.push_str("no `requester` line has this requester"),
@@ -38,40 +37,50 @@ pub fn push_reply(
     }
 }
 
+fn push_signal(out: &mut String, sources: &Sources) -> Result<(), AllocError> {
+    match sources.fact {
+        Fact::Event(fact) => tell_message(out, &fact, sources.lines(&fact)),
+        _ => Ok(()),
+    }
+}
+
+fn push_ack(out: &mut String, sources: &Sources, call: &Call) -> Result<(), AllocError> {
+    match sources.fact {
+        Fact::Waiting(fact) => {
+            let asked = match *call {
+                Call::Take(_) => Asked::Taken,
+                Call::Best { mask, .. } => Asked::Below(mask),
+                _ => Asked::Shown,
+            };
+            tell_ack(out, fact.vcpu, asked, fact.waiting, fact.on)
+        }
+        Fact::Claimed(fact) => tell_claim(out, fact.vcpu, fact.intid, fact.state),
+        _ => Ok(()),
+    }
+}
+
 fn push_step(out: &mut String, sources: &Sources, step: StepReply) -> Result<(), AllocError> {
     match step {
-        StepReply::Idle => push_idle(out, sources),
-        StepReply::QueueFault(addr) => write!(
-            out,
-            "the 32 bytes of the next command, at 0x{:x}, don't lie in one window",
-            addr.0
-        ),
+        StepReply::Idle => match sources.fact {
+            Fact::Idle(fact) => tell_idle(out, fact.cause, fact.place),
+            _ => Ok(()),
+        },
+        StepReply::QueueFault(addr) => {
+            push_in_hexadecimal(out, "the 32 bytes of the next command, at ", addr.0)?;
+            out.push_str(", don't lie in one window")
+        }
         StepReply::Ran(_) => push_ran(out, sources),
         StepReply::Refused(_, reason) => {
             let Some(taken) = sources.taken else {
                 return Ok(());
             };
             match sources.book.writer(taken.addr.0) {
-                Some(line) => write!(out, "not done, of line {line}: ")?,
-                None => write!(out, "not done, of 0x{:x}: ", taken.addr.0)?,
+                Some(line) => push_numbered(out, "not done, of line ", line)?,
+                None => push_in_hexadecimal(out, "not done, of ", taken.addr.0)?,
             }
+            out.push_str(": ")?;
             push_reason(out, sources, taken, reason)
         }
-    }
-}
-
-fn push_idle(out: &mut String, sources: &Sources) -> Result<(), AllocError> {
-    let Fact::Idle(cause, place) = sources.fact else {
-        return Ok(());
-    };
-    match cause {
-        Some(IdleCause::NotEnabled) => {
-            out.push_str("the translator isn't enabled: bit 0 of GITS_CTLR is 0 (section 12.19.6)")
-        }
-        _ => write!(
-            out,
-            "the queue is empty: CREADR and CWRITER are both 0x{place:x}"
-        ),
     }
 }
 
@@ -80,9 +89,10 @@ fn push_ran(out: &mut String, sources: &Sources) -> Result<(), AllocError> {
         return Ok(());
     };
     match sources.book.writer(taken.addr.0) {
-        Some(line) => write!(out, "by line {line} ")?,
-        None => write!(out, "by the command at 0x{:x} ", taken.addr.0)?,
+        Some(line) => push_numbered(out, "by line ", line)?,
+        None => push_in_hexadecimal(out, "by the command at ", taken.addr.0)?,
     }
+    out.push_str(" ")?;
     push_effect(out, sources, &taken.command)
 }
 
@@ -101,45 +111,25 @@ fn push_outside(out: &mut String, call: &Call) -> Result<(), AllocError> {
 fn push_access(out: &mut String, sources: &Sources, call: &Call) -> Result<(), AllocError> {
     match *call {
         Call::Poke { addr, bytes } | Call::Dma { addr, bytes, .. } => {
-            push_count(out, bytes.as_slice().len() as u64, "byte")?;
-            write!(out, " of guest memory, written from 0x{:x} on", addr.0)
+            push_count(out, "", bytes.as_slice().len() as u64, "byte")?;
+            push_in_hexadecimal(out, " of guest memory, written from ", addr.0)?;
+            out.push_str(" on")
         }
         Call::Peek { addr, count } => {
-            push_count(out, u64::from(count), "byte")?;
-            write!(out, " of guest memory, from 0x{:x} on", addr.0)
+            push_count(out, "", u64::from(count), "byte")?;
+            push_in_hexadecimal(out, " of guest memory, from ", addr.0)?;
+            out.push_str(" on")
         }
-        _ => push_register(out, sources, call),
+        _ => push_register(out, sources.fact),
     }
 }
 
-fn push_register(out: &mut String, sources: &Sources, call: &Call) -> Result<(), AllocError> {
-    match (*call, sources.fact) {
-        (Call::ReadReg { off, .. }, Fact::Read(value)) => push_translator_value(out, off, value),
-        (Call::ReadGicr { off, .. }, Fact::Read(value)) => push_lpi_value(out, off, value),
-        (
-            Call::WriteReg {
-                its,
-                off,
-                size,
-                value,
-            },
-            Fact::Written(fact),
-        ) => {
-            let access = Access { off, size, value };
-            push_write(out, sources.machine, its, access, &fact)
-        }
-        (
-            Call::WriteGicr {
-                off,
-                size,
-                value,
-                ..
-            },
-            Fact::LpiWritten(fact),
-        ) => {
-            let access = Access { off, size, value };
-            push_lpi_write(out, sources.machine, access, &fact)
-        }
+fn push_register(out: &mut String, fact: Fact) -> Result<(), AllocError> {
+    match fact {
+        Fact::Read(fact) => push_translator_value(out, fact.off, fact.value),
+        Fact::LpiRead(fact) => push_lpi_value(out, fact.off, fact.value),
+        Fact::Written(written) => push_write(out, &written.access, &written.fact),
+        Fact::LpiWritten(written) => push_lpi_write(out, &written.access, &written.fact),
         _ => Ok(()),
     }
 }

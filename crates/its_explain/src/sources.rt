@@ -4,7 +4,7 @@ use crate::facts::{Fact, Taken};
 use crate::replayed::Replayed;
 use call_facts::Key;
 use std::alloc::AllocError;
-use std::fmt::Write;
+use told_words::{EventFact, Lines, push_by, push_since};
 
 /// What sentences on a call are made from.
 #[derive(Clone, Copy)]
@@ -20,29 +20,31 @@ pub struct Sources<'a> {
 }
 
 impl<'a> Sources<'a> {
+    /// The line whose command last changed an answer.
+    pub fn line(&self, its: u8, key: Key) -> Option<u64> {
+        self.book.changer(its, key)
+    }
+
+    /// The lines whose commands last changed what the maps answer of an event and what it needs.
+    pub fn lines(&self, fact: &EventFact) -> Lines {
+        let collection = match fact.before.event {
+            Some(event) => self.line(fact.its, Key::Collection(event.icid)),
+            None => None,
+        };
+        Lines {
+            device: self.line(fact.its, Key::Device(fact.dev)),
+            event: self.line(fact.its, Key::Event(fact.dev, fact.ev)),
+            collection,
+        }
+    }
+
     /// Adds the line whose command mapped something.
     pub fn push_by(&self, out: &mut String, its: u8, key: Key) -> Result<(), AllocError> {
-        match self.book.changer(its, key) {
-            Some(line) => write!(out, " by line {line}"),
-            None => out.push_str(" by the tables"),
-        }
+        push_by(out, self.line(its, key))
     }
 
     /// Adds the line whose command unmapped something, if one did.
     pub fn push_since(&self, out: &mut String, its: u8, key: Key) -> Result<(), AllocError> {
-        match self.book.changer(its, key) {
-            Some(line) => write!(out, " since line {line}"),
-            None => Ok(()),
-        }
-    }
-}
-
-/// Adds a count with its noun, which has an s unless it is one.
-pub fn push_count(out: &mut String, count: u64, noun: &str) -> Result<(), AllocError> {
-    write!(out, "{count} {noun}")?;
-    if count == 1 {
-        Ok(())
-    } else {
-        out.push_str("s")
+        push_since(out, self.line(its, key))
     }
 }

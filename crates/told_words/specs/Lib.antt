@@ -1,0 +1,14 @@
+pub mod Numbers
+pub mod RegisterNames
+pub mod Values
+pub mod Messages
+pub mod Moves
+pub mod EventLpis
+pub mod Events
+pub mod Devices
+pub mod Collections
+pub mod Acks
+pub mod Idle
+pub mod Writes
+pub mod LpiWrites
+pub mod Tells
