@@ -30,7 +30,31 @@ and a run's line is
             "11 2.2",
             "The report says
     11 2.2 signal 7 2 -> delivered 1 8192
-This thread has no call left in the first phase that has calls left.
+and phase 2 of the leg has one thread.
+",
+        ),
+        (
+            "11 2.1",
+            "11 3.1",
+            "The report says
+    11 3.1 signal 7 2 -> delivered 1 8192
+and the leg has 2 phases.
+",
+        ),
+        (
+            "11 2.1",
+            "11 1.1",
+            "The report says
+    11 1.1 signal 7 2 -> delivered 1 8192
+and all calls of thread 1.1 are told already.
+",
+        ),
+        (
+            "0 1.1 write",
+            "0 2.1 write",
+            "The report says
+    0 2.1 write 0x100 8 0x8107000080000200 -> ok
+and the call of line 10 is left, whose phase comes before phase 2.
 ",
         ),
         (
@@ -81,8 +105,34 @@ Here stands `vcpu 1 pending INTIDS`, with `none` for no INTID.
         (
             "done\n",
             "",
-            "Line 17 of the report isn't there, or has no bytes.
+            "The report stops before its line 17.
 Here stands `done`, after the script's last leg.
+",
+        ),
+        (
+            "leg 1\n",
+            "leg 1\r\n",
+            "Line 1 of the report is
+    leg 1.
+It ends with CR LF, and a report's lines end with LF (byte 0x0A) alone.
+Here stands `leg 1`.
+",
+        ),
+        (
+            "leg 1\n",
+            "leg 1\n\n",
+            "Line 2 of the report has no bytes, and a report has no blank lines.
+Here stands `0 PHASE.THREAD CALL -> REPLY`, or after the leg's last call
+`vcpu 0 pending INTIDS`, with `none` for no INTID.
+",
+        ),
+        (
+            "leg 1\n",
+            "# mine\nleg 1\n",
+            "Line 1 of the report is
+    # mine
+A report has no remarks.
+Here stands `leg 1`.
 ",
         ),
     ] {

@@ -22,6 +22,19 @@ pub struct Next {
     pub line: CallLine,
 }
 
+/// Why a thread has no call that can be made next.
+#[derive(Clone, Copy)]
+pub enum Missing {
+    /// The leg has so many phases.
+    Phase(usize),
+    /// The phase has so many threads.
+    Thread(usize),
+    /// The thread's calls were all made.
+    Over,
+    /// A call of an earlier phase is left, in this line.
+    Earlier(u64),
+}
+
 /// The calls of a leg that aren't made yet.
 #[derive(Drop)]
 pub struct Left<'a> {
@@ -85,6 +98,30 @@ impl<'a> Left<'a> {
         }
         let thread = self.threads.get_mut(at)?;
         thread.next()
+    }
+
+    /// Why a thread of a phase, both counted from 1, has no call to be taken.
+    pub fn missing(&self, phase: usize, thread: usize) -> Missing {
+        let phases = self.starts.len();
+        let Some(start) = self.starts.get(phase.saturating_sub(1)) else {
+            return Missing::Phase(phases);
+        };
+        let end = self
+            .starts
+            .get(phase)
+            .copied()
+            .unwrap_or(self.threads.len());
+        let threads = end.saturating_sub(*start);
+        if phase == 0 || thread == 0 || thread > threads {
+            return Missing::Thread(threads);
+        }
+        match self
+            .threads
+            .get(start.saturating_add(thread).saturating_sub(1))
+        {
+            Some(own) if own.is_over() => Missing::Over,
+            _ => Missing::Earlier(self.first_line().unwrap_or(0)),
+        }
     }
 
     /// Whether no thread before a place has calls left.

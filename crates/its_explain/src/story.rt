@@ -3,7 +3,7 @@ use crate::book::Book;
 use crate::call_lines::CallLine;
 use crate::entries::{Entry, entry_of};
 use crate::facts::{Fact, Taken};
-use crate::left::{Left, Next, count_calls, cut};
+use crate::left::{Left, Missing, Next, count_calls, cut};
 use crate::lines::{first_words, number};
 use crate::replayed::Replayed;
 use crate::replies::push_reply;
@@ -113,7 +113,7 @@ impl<'a> Story<'a> {
     ) -> Result<Told, AllocError> {
         let Some(next) = self.left.take(entry.phase, entry.thread) else {
             push_difference(out, line)?;
-            out.push_str("This thread has no call left in the first phase that has calls left.\n")?;
+            self.push_missing(out, entry)?;
             return Ok(Told::Wrong);
         };
         let taken = self.command_for(&next.call);
@@ -126,6 +126,29 @@ impl<'a> Story<'a> {
         let told = self.tell_made(out, line, entry, &next, taken, &made)?;
         self.remember(&next, taken, &made, &watch)?;
         Ok(told)
+    }
+
+    /// Adds why no call is left of which an entry could tell.
+    fn push_missing(&self, out: &mut String, entry: &Entry) -> Result<(), AllocError> {
+        let (phase, thread) = (entry.phase, entry.thread);
+        match self.left.missing(phase, thread) {
+            Missing::Phase(1) => writeln!(out, "and the leg has one phase."),
+            Missing::Phase(phases) => writeln!(out, "and the leg has {phases} phases."),
+            Missing::Thread(1) => writeln!(out, "and phase {phase} of the leg has one thread."),
+            Missing::Thread(threads) => {
+                writeln!(out, "and phase {phase} of the leg has {threads} threads.")
+            }
+            Missing::Over => {
+                writeln!(
+                    out,
+                    "and all calls of thread {phase}.{thread} are told already."
+                )
+            }
+            Missing::Earlier(line) => writeln!(
+                out,
+                "and the call of line {line} is left, whose phase comes before phase {phase}."
+            ),
+        }
     }
 
     /// Tells what came of a call, or what the line would have to say.

@@ -39,16 +39,19 @@ pub fn push_trace_fault(
 ) -> Result<(), AllocError> {
     let place = place_before(script, report, line);
     let text = line_at(report, line);
-    if text.is_empty() {
-        writeln!(
-            out,
-            "Line {line} of the report isn't there, or has no bytes."
-        )?;
-    } else {
+    let ends = count_ends(report);
+    if !text.is_empty() {
         writeln!(out, "Line {line} of the report is")?;
         push_plain(out, text)?;
         push_broken(out, place.next, text)?;
-        push_open_end(out, report, line)?;
+        push_odd_end(out, text, ends < line)?;
+    } else if ends < line {
+        writeln!(out, "The report stops before its line {line}.")?;
+    } else {
+        writeln!(
+            out,
+            "Line {line} of the report has no bytes, and a report has no blank lines."
+        )?;
     }
     place.push_expected(out)
 }
@@ -167,17 +170,27 @@ fn has_arrow(line: &[u8]) -> bool {
     false
 }
 
-/// Adds that a line hasn't its end, where it is the last and hasn't.
-fn push_open_end(out: &mut String, report: &[u8], line: u64) -> Result<(), AllocError> {
+/// How many line ends there are.
+fn count_ends(report: &[u8]) -> u64 {
     let mut ends = 0u64;
     for byte in report {
         if *byte == b'\n' {
             ends = ends.saturating_add(1);
         }
     }
-    if ends < line {
-        out.push_str("It has no line end (LF, byte 0x0A).\n")
-    } else {
-        Ok(())
+    ends
+}
+
+/// Adds what is odd about a line's end or its beginning.
+fn push_odd_end(out: &mut String, text: &[u8], is_open: bool) -> Result<(), AllocError> {
+    if is_open {
+        out.push_str("It has no line end (LF, byte 0x0A).\n")?;
     }
+    if text.last() == Some(&b'\r') {
+        out.push_str("It ends with CR LF, and a report's lines end with LF (byte 0x0A) alone.\n")?;
+    }
+    if text.first() == Some(&b'#') {
+        out.push_str("A report has no remarks.\n")?;
+    }
+    Ok(())
 }

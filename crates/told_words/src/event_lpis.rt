@@ -132,9 +132,12 @@ pub fn push_read_again(out: &mut String, lpi: &EventLpi) -> Result<(), AllocErro
     out.push_str("the configuration of ")?;
     push_name(out, lpi)?;
     out.push_str(" is read again")?;
-    match (lpi.was, lpi.is) {
-        (Some(was), Some(is)) => push_read_there(out, lpi, was, is),
-        _ => Ok(()),
+    let Some(was) = lpi.was else {
+        return Ok(());
+    };
+    match lpi.is {
+        Some(is) => push_read_there(out, lpi, was, is),
+        None => Ok(()),
     }
 }
 

@@ -42,9 +42,12 @@ fn push_way(out: &mut String, moved: &Moved) -> Result<(), AllocError>
     ensures { OnOk result
         (string_bytes out.new ≡ string_bytes out.old ++ spec.way_words moved.now) }
 {
-    match (moved.from, moved.to) {
-        (Some(from), Some(to)) => push_from_to(out, moved, from, to),
-        _ => Ok(()),
+    let Some(from) = moved.from else {
+        return Ok(());
+    };
+    match moved.to {
+        Some(to) => push_from_to(out, moved, from, to),
+        None => Ok(()),
     }
 }
 
