@@ -19,6 +19,7 @@ mod looks;
 mod machine_fault;
 mod many;
 mod missing;
+mod near;
 mod order;
 mod refused;
 mod replayed;

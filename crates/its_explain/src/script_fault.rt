@@ -5,6 +5,7 @@ use crate::grammar::{CALLS, COMMANDS, DESCRIPTION, STRUCTURE};
 use crate::lines::{Field, fields_of, line_at, text_at, word};
 use crate::many::push_many;
 use crate::missing::push_missing;
+use crate::near::near;
 use crate::order::push_order;
 use crate::show::{push_marked, push_names, push_quoted};
 use crate::slot_fault::{Wanted, push_slot_fault};
@@ -129,7 +130,11 @@ fn push_word(out: &mut String, faulty: &Faulty) -> Result<(), AllocError> {
     }
     push_quoted(out, faulty.text(0))?;
     out.push_str(" begins no line\n")?;
+    push_meant(out, faulty)?;
     push_hint(out, word(faulty.text(0)))?;
+    if faulty.context.stage == Stage::Ended {
+        return out.push_str("After `end` a line `trace` and a report may follow, or remarks.\n");
+    }
     push_first_words(out)
 }
 
@@ -140,6 +145,22 @@ pub fn push_report(out: &mut String, faulty: &Faulty) -> Result<(), AllocError> 
     }
     out.push_str("this begins a report, as `its run` prints it, and a script was expected\n")?;
     out.push_str("A report is read after its script and a line `trace`, by `its check` or here.\n")
+}
+
+/// Adds the word that was maybe meant.
+fn push_meant(out: &mut String, faulty: &Faulty) -> Result<(), AllocError> {
+    let written = faulty.text(0);
+    let meant = if faulty.context.stage == Stage::Ended {
+        near(&["trace"], written)
+    } else {
+        near(&DESCRIPTION, written)
+            .or(near(&STRUCTURE, written))
+            .or(near(&CALLS, written))
+    };
+    match meant {
+        Some(meant) => writeln!(out, "Maybe `{meant}` is meant."),
+        None => Ok(()),
+    }
 }
 
 /// Adds where a word belongs that begins no line.

@@ -168,11 +168,10 @@ impl<'a> Story<'a> {
             return Ok(Told::Right);
         }
         push_difference(out, line)?;
-        out.push_str("and a run's line is\n")?;
         let place = self.places;
         let (phase, thread) = (entry.phase, entry.thread);
         let right = format!(in self.alloc; "{place} {phase}.{thread} {}", text.as_str())?;
-        push_plain(out, right.as_str().as_bytes())?;
+        push_right(out, line, right.as_str().as_bytes())?;
         self.push_came(out, next, taken, made)?;
         Ok(Told::Wrong)
     }
@@ -255,8 +254,7 @@ impl<'a> Story<'a> {
             let right = vcpu_text(self.alloc, vcpu as u64, &text)?;
             if !says(right.as_str(), line) {
                 push_difference(out, line)?;
-                out.push_str("and a run's line is\n")?;
-                push_plain(out, right.as_str().as_bytes())?;
+                push_right(out, line, right.as_str().as_bytes())?;
                 return Ok(Told::Wrong);
             }
         }
@@ -302,8 +300,7 @@ impl<'a> Story<'a> {
         }
         if !says(right.as_str(), line) {
             push_difference(out, line)?;
-            out.push_str("and a run's line is\n")?;
-            push_plain(out, right.as_str().as_bytes())?;
+            push_right(out, line, right.as_str().as_bytes())?;
             return Ok(Told::Wrong);
         }
         push_heading(out, line)?;
@@ -364,4 +361,19 @@ fn push_trimmed(out: &mut String, line: &[u8]) -> Result<(), AllocError> {
 fn push_difference(out: &mut String, line: &[u8]) -> Result<(), AllocError> {
     out.push_str("The report says\n")?;
     push_plain(out, line)
+}
+
+/// Adds a run's line, and that a line has but spaces more than it.
+fn push_right(out: &mut String, line: &[u8], right: &[u8]) -> Result<(), AllocError> {
+    out.push_str("and a run's line is\n")?;
+    push_plain(out, right)?;
+    if has_spaces_more(line, right) {
+        out.push_str("without the spaces at its end.\n")?;
+    }
+    Ok(())
+}
+
+fn has_spaces_more(line: &[u8], right: &[u8]) -> bool {
+    let more = line.get(right.len()..).unwrap_or(&[]);
+    line.starts_with(right) && !more.is_empty() && more.iter().all(|b| *b == b' ')
 }

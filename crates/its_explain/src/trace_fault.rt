@@ -189,8 +189,29 @@ fn push_odd_end(out: &mut String, text: &[u8], is_open: bool) -> Result<(), Allo
     if text.last() == Some(&b'\r') {
         out.push_str("It ends with CR LF, and a report's lines end with LF (byte 0x0A) alone.\n")?;
     }
+    if has_unprinted(text) {
+        out.push_str("It has bytes that don't print, for which dots stand above.\n")?;
+    }
     if text.first() == Some(&b'#') {
         out.push_str("A report has no remarks.\n")?;
     }
+    if is_said_of_input(text) {
+        out.push_str("This is what `its` says of an input, and no line of a report.\n")?;
+    }
     Ok(())
+}
+
+/// Whether there are bytes that don't print, but for the last of a CR LF.
+fn has_unprinted(text: &[u8]) -> bool {
+    for byte in text {
+        if (*byte < 32 || 126 < *byte) && *byte != b'\r' {
+            return true;
+        }
+    }
+    false
+}
+
+/// Whether a line begins as one that `its` prints in place of a report.
+fn is_said_of_input(text: &[u8]) -> bool {
+    text == b"agrees".as_slice() || text.starts_with(b"refused ") || text.starts_with(b"differs ")
 }
