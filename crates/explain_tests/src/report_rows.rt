@@ -110,6 +110,37 @@ Here stands `done`, after the script's last leg.
 ",
         ),
         (
+            "-> delivered 1 8192",
+            "-> delivered 1 8192 ",
+            "The report says
+    11 2.1 signal 7 2 -> delivered 1 8192 
+and a run's line is
+    11 2.1 signal 7 2 -> delivered 1 8192
+without the spaces at its end.
+        line 23: device 7 is mapped by line 14, event 2 is LPI 8192 of collection 0 by line 16,
+        which goes to processor 1 by line 15
+",
+        ),
+        (
+            "leg 1\n",
+            "agrees\n",
+            "Line 1 of the report is
+    agrees
+This is what `its` says of an input, and no line of a report.
+Here stands `leg 1`.
+",
+        ),
+        (
+            "delivered 1",
+            "del\u{1}ivered 1",
+            "Line 13 of the report is
+    11 2.1 signal 7 2 -> del.ivered 1 8192
+It has bytes that don't print, for which dots stand above.
+Here stands `11 PHASE.THREAD CALL -> REPLY`, or after the leg's last call
+`vcpu 0 pending INTIDS`, with `none` for no INTID.
+",
+        ),
+        (
             "leg 1\n",
             "leg 1\r\n",
             "Line 1 of the report is

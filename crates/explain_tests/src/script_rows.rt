@@ -9,7 +9,7 @@ fn fields_are_explained(rt: HostRuntime) {
             "mapit",
             "    command 0x80020040 mapit 7 2 8192 0
                        ^
-line 16, field 3: \"mapit\" is no command; commands are
+line 16, field 3: \"mapit\" is no command; maybe `mapti` is meant; commands are
     mapd, unmapd, mapc, unmapc, mapti, mapi, movi, movall, int, clear, discard,
     inv, invall, sync
 ",
@@ -244,6 +244,35 @@ line 22: `signal` stands in a thread, after `phase` and `thread`
     ^
 line 13: \"mapd\" begins no line
 It is the word of a command, which stands after `command ADDR`.
+Lines of the description begin with
+    vcpus, processors, shards, limits, ids, profile, window, config, pending, gicr,
+    linux, pair, track, its-base, b-base, requester, bytes, word, restore, brestore,
+    rrestore, from-kvm
+those of the body with
+    phase, thread, migrate, precopy, end
+calls with
+    signal, take, show, best, claim, poke, word, command, peek, read, write, rread,
+    rwrite, step, save, copy, dma, b
+and remarks with #
+",
+        ),
+        (
+            "end\n",
+            "end\nTrace\n",
+            "    Trace
+    ^
+line 26: \"Trace\" begins no line
+Maybe `trace` is meant.
+After `end` a line `trace` and a report may follow, or remarks.
+",
+        ),
+        (
+            "vcpus 2",
+            "vcpu 2",
+            "    vcpu 2
+    ^
+line 1: \"vcpu\" begins no line
+Maybe `vcpus` is meant.
 Lines of the description begin with
     vcpus, processors, shards, limits, ids, profile, window, config, pending, gicr,
     linux, pair, track, its-base, b-base, requester, bytes, word, restore, brestore,

@@ -1,6 +1,7 @@
 //! A line with the wrong number of fields, or of no command.
 use crate::grammar::{COMMANDS, Form, call_form, command_form, line_form};
 use crate::lines::word;
+use crate::near::near;
 use crate::script_fault::Faulty;
 use crate::show::{push_names, push_quoted};
 use std::alloc::AllocError;
@@ -69,6 +70,9 @@ fn push_no_command(out: &mut String, faulty: &Faulty) -> Result<(), AllocError> 
         push_quoted(out, faulty.text(2))?;
         out.push_str(" is no command")?;
     }
+    if let Some(meant) = near(&COMMANDS, faulty.text(2)) {
+        write!(out, "; maybe `{meant}` is meant")?;
+    }
     out.push_str("; commands are\n")?;
     push_names(out, &COMMANDS)
 }
@@ -78,7 +82,11 @@ fn push_count(out: &mut String, faulty: &Faulty, meant: &Meant) -> Result<(), Al
     let wanted = slots.saturating_add(1).saturating_add(meant.first);
     push_which(out, faulty, wanted)?;
     let mark = if meant.first == 0 { "" } else { "b " };
-    writeln!(out, "; the line is `{mark}{}`", meant.form.text)
+    writeln!(out, "; the line is `{mark}{}`", meant.form.text)?;
+    if faulty.text(wanted).first() == Some(&b'#') {
+        out.push_str("A remark stands on a line of its own.\n")?;
+    }
+    Ok(())
 }
 
 /// Adds which field is one more than so many, or is missing.

@@ -1,6 +1,7 @@
 //! The word that was maybe meant.
 
-/// The word of a list that differs from what is written in a letter, or in capitals.
+/// The word of a list that differs from what is written in a letter, in two that are swapped, or in
+/// capitals.
 pub fn near(words: &[&'static str], written: &[u8]) -> Option<&'static str> {
     for word in words {
         if is_near(word.as_bytes(), written) {
@@ -15,8 +16,20 @@ fn is_near(word: &[u8], written: &[u8]) -> bool {
     if word.len() < 3 || word.len() > most || written.len() > word.len().saturating_add(1) {
         return false;
     }
-    let alike = same_start(word, written).saturating_add(same_end(word, written));
-    word.len() <= alike.saturating_add(1) && written.len() <= alike.saturating_add(1)
+    let start = same_start(word, written);
+    let alike = start.saturating_add(same_end(word, written));
+    let has_one = word.len() <= alike.saturating_add(1) && written.len() <= alike.saturating_add(1);
+    has_one || has_swap(word, written, start, alike)
+}
+
+/// Whether two letters are swapped from a place on, of words of which so many are the same.
+fn has_swap(word: &[u8], written: &[u8], start: usize, alike: usize) -> bool {
+    let next = start.saturating_add(1);
+    word.len() == written.len()
+        && word.len() <= alike.saturating_add(2)
+        && word.get(start).is_some()
+        && word.get(start) == written.get(next)
+        && word.get(next) == written.get(start)
 }
 
 /// How many letters are the same from the first on.

@@ -1,6 +1,6 @@
 //! What came of a call, in a sentence.
 use crate::commands::push_effect;
-use crate::facts::Fact;
+use crate::facts::{Fact, Taken};
 use crate::refused::push_reason;
 use crate::sources::Sources;
 use its_plain::{Call, Reply, Route, StepReply};
@@ -76,12 +76,18 @@ fn push_step(out: &mut String, sources: &Sources, step: StepReply) -> Result<(),
             };
             match sources.book.writer(taken.addr.0) {
                 Some(line) => push_numbered(out, "not done, of line ", line)?,
-                None => push_in_hexadecimal(out, "not done, of ", taken.addr.0)?,
+                None => push_unwritten(out, taken)?,
             }
             out.push_str(": ")?;
             push_reason(out, sources, taken, reason)
         }
     }
+}
+
+/// Adds where a refused command stands that no line wrote.
+fn push_unwritten(out: &mut String, taken: &Taken) -> Result<(), AllocError> {
+    push_in_hexadecimal(out, "not done, of ", taken.addr.0)?;
+    out.push_str(", which no line wrote")
 }
 
 fn push_ran(out: &mut String, sources: &Sources) -> Result<(), AllocError> {

@@ -105,6 +105,9 @@ fn push_text(out: &mut String, faulty: &Faulty) -> Result<(), AllocError> {
     for byte in faulty.line {
         if *byte < 32 || 126 < *byte {
             faulty.push_column(out, column)?;
+            if faulty.line.starts_with(b"\xef\xbb\xbf") {
+                out.push_str("the line begins with a byte order mark. ")?;
+            }
             return push_byte(out, *byte);
         }
         column = column.saturating_add(1);
