@@ -27,4 +27,4 @@ plural n = if n == 1 then [] else codes "s"
 
 -- words, a count and its noun
 unfoldable pub counted : List ℕ → ℕ → List ℕ → List ℕ
-counted words n noun = numbered words n ++ noun ++ plural n
+counted words n noun = numbered words n ++ codes " " ++ noun ++ plural n

@@ -70,6 +70,7 @@ pub fn push_count(out: &mut String, words: &str, count: u64, noun: &str) -> Resu
         ≡ string_bytes out.old ++ spec.counted words.now count noun.now) }
 {
     push_numbered(out, words, count)?;
+    out.push_str(" ")?;
     out.push_str(noun)?;
     out.push_str(plural(count))
 }
