@@ -3,7 +3,7 @@ ghost use Rattle.std.specs.Prelude.{◌≡◌, ◌++◌, OnOk};
 ghost use Rattle.std.specs.String.{string_bytes};
 ghost use Rattle.told_words.specs.Acks as spec;
 
-use crate::numbers::{push_in_hexadecimal, push_numbered};
+use crate::numbers::{push_hex_byte, push_small, push_wide};
 use call_facts::{LpiState, Waiting};
 use its_types::{Intid, Vcpu};
 use std::alloc::AllocError;
@@ -124,8 +124,8 @@ pub fn push_acked(out: &mut String, acked: &Acked) -> Result<(), AllocError>
         }
         Acked::Shown(vcpu) => push_lowest(out, vcpu),
         Acked::First { vcpu, mask } => {
-            push_numbered(out, "the first by priority at processor ", vcpu.0.into())?;
-            push_in_hexadecimal(out, ", of those below ", mask.into())
+            push_small(out, "the first by priority at processor ", vcpu.0)?;
+            push_hex_byte(out, ", of those below ", mask)
         }
         Acked::NotBelow {
             vcpu,
@@ -133,34 +133,30 @@ pub fn push_acked(out: &mut String, acked: &Acked) -> Result<(), AllocError>
             priority,
             mask,
         } => {
-            push_numbered(out, "the first at processor ", vcpu.0.into())?;
-            push_numbered(out, " is LPI ", intid.0.into())?;
-            push_in_hexadecimal(out, " of priority ", priority.into())?;
-            push_in_hexadecimal(out, ", which isn't below ", mask.into())
+            push_small(out, "the first at processor ", vcpu.0)?;
+            push_wide(out, " is LPI ", intid.0)?;
+            push_hex_byte(out, " of priority ", priority)?;
+            push_hex_byte(out, ", which isn't below ", mask)
         }
         Acked::Off(vcpu) => {
-            push_numbered(out, "no LPI is pending at processor ", vcpu.0.into())?;
+            push_small(out, "no LPI is pending at processor ", vcpu.0)?;
             out.push_str(": LPIs are off there (EnableLPIs of GICR_CTLR, section 12.11)")
         }
         Acked::Nothing(vcpu) => {
-            push_numbered(out, "no LPI is pending at processor ", vcpu.0.into())?;
+            push_small(out, "no LPI is pending at processor ", vcpu.0)?;
             out.push_str(" (section 5.1)")
         }
         Acked::NotEnabled { vcpu, intid } => push_not_enabled(out, vcpu, intid),
         Acked::Claimed(vcpu) => {
-            push_numbered(
-                out,
-                "it was pending and enabled at processor ",
-                vcpu.0.into(),
-            )?;
+            push_small(out, "it was pending and enabled at processor ", vcpu.0)?;
             out.push_str(", and isn't pending any more")
         }
         Acked::NotPending { vcpu, intid } => {
-            push_numbered(out, "LPI ", intid.0.into())?;
-            push_numbered(out, " isn't pending at processor ", vcpu.0.into())
+            push_wide(out, "LPI ", intid.0)?;
+            push_small(out, " isn't pending at processor ", vcpu.0)
         }
         Acked::NoLpi(intid) => {
-            push_numbered(out, "", intid.0.into())?;
+            push_wide(out, "", intid.0)?;
             out.push_str(" is no LPI's number (section 2.2)")
         }
     }
@@ -170,10 +166,10 @@ fn push_lowest(out: &mut String, vcpu: Vcpu) -> Result<(), AllocError>
     ensures { OnOk result
         (string_bytes out.new ≡ string_bytes out.old ++ spec.lowest_words vcpu.0) }
 {
-    push_numbered(
+    push_small(
         out,
         "the lowest that is pending and enabled at processor ",
-        vcpu.0.into(),
+        vcpu.0,
     )
 }
 
@@ -182,8 +178,8 @@ fn push_not_enabled(out: &mut String, vcpu: Vcpu, intid: Intid) -> Result<(), Al
     ensures { OnOk result
         (string_bytes out.new ≡ string_bytes out.old ++ spec.not_enabled_words vcpu.0 intid.0) }
 {
-    push_numbered(out, "LPI ", intid.0.into())?;
-    push_numbered(out, " is pending at processor ", vcpu.0.into())?;
+    push_wide(out, "LPI ", intid.0)?;
+    push_small(out, " is pending at processor ", vcpu.0)?;
     out.push_str(", and not enabled: ")?;
     out.push_str("bit 0 of its configuration byte was 0 when that was last read (section 5.1.1)")
 }

@@ -4,7 +4,7 @@ ghost use Rattle.std.specs.String.{string_bytes};
 ghost use Rattle.told_words.specs.Collections as spec;
 
 use crate::facts::CollectionFact;
-use crate::numbers::{push_by, push_count, push_numbered};
+use crate::numbers::{push_by, push_count, push_numbered, push_small};
 use its_types::{Icid, Vcpu};
 use std::alloc::AllocError;
 
@@ -78,11 +78,11 @@ pub fn push_collection_effect(out: &mut String, effect: &CollectionEffect) -> Re
 {
     match *effect {
         CollectionEffect::Nothing(icid) => {
-            push_numbered(out, "collection ", icid.0.into())?;
+            push_small(out, "collection ", icid.0)?;
             out.push_str(" isn't mapped, so nothing changes")
         }
         CollectionEffect::Unmapped(icid) => {
-            push_numbered(out, "collection ", icid.0.into())?;
+            push_small(out, "collection ", icid.0)?;
             out.push_str(" is unmapped")
         }
         CollectionEffect::Goes { icid, to } => push_goes(out, icid, to),
@@ -100,8 +100,8 @@ fn push_goes(out: &mut String, icid: Icid, to: Vcpu) -> Result<(), AllocError>
     ensures { OnOk result
         (string_bytes out.new ≡ string_bytes out.old ++ spec.goes_words icid.0 to.0) }
 {
-    push_numbered(out, "collection ", icid.0.into())?;
-    push_numbered(out, " goes to processor ", to.0.into())
+    push_small(out, "collection ", icid.0)?;
+    push_small(out, " goes to processor ", to.0)
 }
 
 #[tactic(auto, unfolding(crate::specs::Collections::left_words))]
@@ -110,7 +110,7 @@ fn push_left(out: &mut String, left: &Left) -> Result<(), AllocError>
         (string_bytes out.new ≡ string_bytes out.old ++ spec.left_words left.now) }
 {
     push_goes(out, left.icid, left.to)?;
-    push_numbered(out, ", and no more to processor ", left.from.0.into())?;
+    push_small(out, ", and no more to processor ", left.from.0)?;
     push_pending(out, left)
 }
 
@@ -123,7 +123,7 @@ fn push_pending(out: &mut String, left: &Left) -> Result<(), AllocError>
     if left.has < left.had {
         push_count(out, ", with ", left.had - left.has, "pending LPI")
     } else if left.had > 0 {
-        push_numbered(out, "; what is pending at processor ", left.from.0.into())?;
+        push_small(out, "; what is pending at processor ", left.from.0)?;
         out.push_str(" stays there")
     } else {
         Ok(())
@@ -162,10 +162,6 @@ pub fn push_all_read_again(out: &mut String, icid: Icid) -> Result<(), AllocErro
     ensures { OnOk result
         (string_bytes out.new ≡ string_bytes out.old ++ spec.read_again_words icid.0) }
 {
-    push_numbered(
-        out,
-        "the configurations of the LPIs of collection ",
-        icid.0.into(),
-    )?;
+    push_small(out, "the configurations of the LPIs of collection ", icid.0)?;
     out.push_str(" are read again")
 }

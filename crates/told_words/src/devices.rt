@@ -4,7 +4,7 @@ ghost use Rattle.std.specs.String.{string_bytes};
 ghost use Rattle.told_words.specs.Devices as spec;
 
 use crate::facts::DeviceFact;
-use crate::numbers::{push_by, push_count, push_in_hexadecimal, push_numbered};
+use crate::numbers::{push_by, push_byte, push_count, push_in_hexadecimal, push_wide};
 use its_types::{Device, DeviceId};
 use std::alloc::AllocError;
 
@@ -58,11 +58,11 @@ pub fn push_device_effect(out: &mut String, effect: &DeviceEffect) -> Result<(),
 {
     match *effect {
         DeviceEffect::Nothing(dev) => {
-            push_numbered(out, "device ", dev.0.into())?;
+            push_wide(out, "device ", dev.0)?;
             out.push_str(" isn't mapped, so nothing changes")
         }
         DeviceEffect::Unmapped { dev, events } => {
-            push_numbered(out, "device ", dev.0.into())?;
+            push_wide(out, "device ", dev.0)?;
             push_count(out, " and its ", events, "event")?;
             out.push_str(" are unmapped")
         }
@@ -97,7 +97,7 @@ fn push_mapped(out: &mut String, dev: DeviceId, device: Device) -> Result<(), Al
     ensures { OnOk result
         (string_bytes out.new ≡ string_bytes out.old ++ spec.mapped_words dev.0 device) }
 {
-    push_numbered(out, "device ", dev.0.into())?;
-    push_numbered(out, " is mapped, with ", device.bits.into())?;
+    push_wide(out, "device ", dev.0)?;
+    push_byte(out, " is mapped, with ", device.bits)?;
     push_in_hexadecimal(out, " EventID bits and its table at ", device.itt.0)
 }

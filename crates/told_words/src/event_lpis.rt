@@ -4,7 +4,7 @@ ghost use Rattle.std.specs.String.{string_bytes};
 ghost use Rattle.told_words.specs.EventLpis as spec;
 
 use crate::messages::{push_event, push_standing};
-use crate::numbers::{push_in_hexadecimal, push_numbered};
+use crate::numbers::{push_hex_byte, push_small, push_wide};
 use call_facts::{EventChange, LpiState, PendingChange};
 use its_types::{DeviceId, Event, EventId, Vcpu};
 use std::alloc::AllocError;
@@ -102,21 +102,21 @@ fn push_discarded_lpi(out: &mut String, lpi: &EventLpi, event: Event) -> Result<
 {
     match lpi.change {
         PendingChange::Nowhere => {
-            push_numbered(out, "; its collection ", event.icid.0.into())?;
+            push_small(out, "; its collection ", event.icid.0)?;
             out.push_str(" isn't mapped, so no LPI is cleared")
         }
         PendingChange::Ended => {
-            push_numbered(out, ", and its LPI ", event.intid.0.into())?;
+            push_wide(out, ", and its LPI ", event.intid.0)?;
             out.push_str(" is not pending any more")?;
             push_place(out, lpi.vcpu)
         }
         PendingChange::Absent => {
-            push_numbered(out, "; its LPI ", event.intid.0.into())?;
+            push_wide(out, "; its LPI ", event.intid.0)?;
             out.push_str(" was not pending")?;
             push_place(out, lpi.vcpu)
         }
         _ => {
-            push_numbered(out, "; its LPI ", event.intid.0.into())?;
+            push_wide(out, "; its LPI ", event.intid.0)?;
             out.push_str(" is pending")?;
             push_place(out, lpi.vcpu)
         }
@@ -167,7 +167,7 @@ fn push_configuration(out: &mut String, words: &str, state: LpiState) -> Result<
 {
     out.push_str(words)?;
     out.push_str(enabled_words(state.enabled))?;
-    push_in_hexadecimal(out, " of priority ", state.priority.into())
+    push_hex_byte(out, " of priority ", state.priority)
 }
 
 fn enabled_words(enabled: bool) -> &'static str
@@ -191,7 +191,7 @@ fn push_number(out: &mut String, event: Option<Event>) -> Result<(), AllocError>
 {
     match event {
         Some(event) => {
-            push_numbered(out, "LPI ", event.intid.0.into())?;
+            push_wide(out, "LPI ", event.intid.0)?;
             out.push_str(" of ")
         }
         None => out.push_str("the LPI of "),
@@ -204,7 +204,7 @@ fn push_place(out: &mut String, vcpu: Option<Vcpu>) -> Result<(), AllocError>
     ensures { OnOk result (string_bytes out.new ≡ string_bytes out.old ++ spec.place_words vcpu) }
 {
     match vcpu {
-        Some(vcpu) => push_numbered(out, " at processor ", vcpu.0.into()),
+        Some(vcpu) => push_small(out, " at processor ", vcpu.0),
         None => Ok(()),
     }
 }

@@ -7,7 +7,7 @@ use crate::event_lpis::{EventLpi, push_cleared, push_discarded, push_read_again,
 use crate::facts::EventFact;
 use crate::messages::{push_event, push_lpi_of};
 use crate::moves::{Moved, push_moved};
-use crate::numbers::{push_by, push_numbered};
+use crate::numbers::{push_by, push_small};
 use call_facts::{EventChange, event_change, pending_change};
 use its_types::{DeviceId, Event, EventId, Icid};
 use std::alloc::AllocError;
@@ -183,7 +183,7 @@ pub fn push_event_effect(out: &mut String, effect: &EventEffect) -> Result<(), A
         }
         EventEffect::InAlready { dev, ev, icid } => {
             push_event(out, dev, ev)?;
-            push_numbered(out, " is of collection ", icid.0.into())?;
+            push_small(out, " is of collection ", icid.0)?;
             out.push_str(" already, so nothing changes")
         }
         EventEffect::Moved(moved) => push_moved(out, &moved),

@@ -4,7 +4,7 @@ ghost use Rattle.std.specs.String.{string_bytes};
 ghost use Rattle.told_words.specs.LpiWrites as spec;
 
 use crate::facts::{Access, LpiRegisterFact};
-use crate::numbers::{push_count, push_in_hexadecimal, push_numbered};
+use crate::numbers::{push_count, push_in_hexadecimal, push_wide};
 use crate::registers::{lpi_name, lpi_register};
 use crate::values::push_lpi_value;
 use crate::writes::{part_of, push_kept};
@@ -137,10 +137,10 @@ fn push_reread_one(out: &mut String, intid: u32, lpi_bits: u8) -> Result<(), All
         (string_bytes out.new ≡ string_bytes out.old ++ spec.reread_one intid lpi_bits) }
 {
     if Intid(intid).in_range(lpi_bits) {
-        push_numbered(out, "the configuration of LPI ", intid.into())?;
+        push_wide(out, "the configuration of LPI ", intid)?;
         out.push_str(" is read again")
     } else {
-        push_numbered(out, "ignored: ", intid.into())?;
+        push_wide(out, "ignored: ", intid)?;
         out.push_str(" is no LPI's number (section 2.2)")
     }
 }

@@ -4,7 +4,7 @@ ghost use Rattle.std.specs.String.{string_bytes};
 ghost use Rattle.told_words.specs.Messages as spec;
 
 use crate::facts::{EventFact, Lines};
-use crate::numbers::{push_by, push_numbered, push_since};
+use crate::numbers::{push_by, push_since, push_small, push_wide};
 use call_facts::LpiState;
 use its_types::{DeviceId, Event, EventId, Icid, Vcpu};
 use std::alloc::AllocError;
@@ -110,7 +110,7 @@ pub fn push_message(out: &mut String, message: &Message) -> Result<(), AllocErro
     match *message {
         Message::Disabled => push_disabled(out),
         Message::NoDevice { dev, since } => {
-            push_numbered(out, "device ", dev.0.into())?;
+            push_wide(out, "device ", dev.0)?;
             out.push_str(" isn't mapped")?;
             push_since(out, since)?;
             out.push_str(" (section 5.2.3)")
@@ -122,13 +122,13 @@ pub fn push_message(out: &mut String, message: &Message) -> Result<(), AllocErro
             out.push_str(" (section 5.2.4)")
         }
         Message::NoCollection { icid, since } => {
-            push_numbered(out, "collection ", icid.0.into())?;
+            push_small(out, "collection ", icid.0)?;
             out.push_str(" of the event isn't mapped")?;
             push_since(out, since)?;
             out.push_str(" (section 5.2.5)")
         }
         Message::LpisOff(vcpu) => {
-            push_numbered(out, "LPIs are off at processor ", vcpu.0.into())?;
+            push_small(out, "LPIs are off at processor ", vcpu.0)?;
             out.push_str(": EnableLPIs of GICR_CTLR is 0 (section 12.11)")
         }
         Message::Delivered(delivery) => push_delivery(out, &delivery),
@@ -148,8 +148,8 @@ pub fn push_event(out: &mut String, dev: DeviceId, ev: EventId) -> Result<(), Al
     ensures { OnOk result
         (string_bytes out.new ≡ string_bytes out.old ++ spec.event_words dev.0 ev.0) }
 {
-    push_numbered(out, "event ", ev.0.into())?;
-    push_numbered(out, " of device ", dev.0.into())
+    push_wide(out, "event ", ev.0)?;
+    push_wide(out, " of device ", dev.0)
 }
 
 #[tactic(auto, unfolding(crate::specs::Messages::delivery_words))]
@@ -157,7 +157,7 @@ fn push_delivery(out: &mut String, delivery: &Delivery) -> Result<(), AllocError
     ensures { OnOk result
         (string_bytes out.new ≡ string_bytes out.old ++ spec.delivery_words delivery.now) }
 {
-    push_numbered(out, "device ", delivery.dev.0.into())?;
+    push_wide(out, "device ", delivery.dev.0)?;
     out.push_str(" is mapped")?;
     push_by(out, delivery.by.device)?;
     push_way(out, delivery)?;
@@ -169,10 +169,10 @@ fn push_way(out: &mut String, delivery: &Delivery) -> Result<(), AllocError>
     ensures { OnOk result
         (string_bytes out.new ≡ string_bytes out.old ++ spec.way_words delivery.now) }
 {
-    push_numbered(out, ", event ", delivery.ev.0.into())?;
+    push_wide(out, ", event ", delivery.ev.0)?;
     push_lpi_of(out, " is LPI ", delivery.event)?;
     push_by(out, delivery.by.event)?;
-    push_numbered(out, ", which goes to processor ", delivery.vcpu.0.into())?;
+    push_small(out, ", which goes to processor ", delivery.vcpu.0)?;
     push_by(out, delivery.by.collection)
 }
 
@@ -182,8 +182,8 @@ pub fn push_lpi_of(out: &mut String, words: &str, event: Event) -> Result<(), Al
     ensures { OnOk result
         (string_bytes out.new ≡ string_bytes out.old ++ spec.lpi_words words.now event) }
 {
-    push_numbered(out, words, event.intid.0.into())?;
-    push_numbered(out, " of collection ", event.icid.0.into())
+    push_wide(out, words, event.intid.0)?;
+    push_small(out, " of collection ", event.icid.0)
 }
 
 /// Appends that an LPI was pending already, and that it isn't enabled.

@@ -4,7 +4,7 @@ ghost use Rattle.std.specs.String.{string_bytes};
 ghost use Rattle.told_words.specs.Moves as spec;
 
 use crate::messages::push_event;
-use crate::numbers::push_numbered;
+use crate::numbers::{push_small, push_wide};
 use call_facts::PendingChange;
 use its_types::{DeviceId, Event, EventId, Vcpu};
 use std::alloc::AllocError;
@@ -33,7 +33,7 @@ pub fn push_moved(out: &mut String, moved: &Moved) -> Result<(), AllocError>
         (string_bytes out.new ≡ string_bytes out.old ++ spec.moved_words moved.now) }
 {
     push_event(out, moved.dev, moved.ev)?;
-    push_numbered(out, " goes to collection ", moved.event.icid.0.into())?;
+    push_small(out, " goes to collection ", moved.event.icid.0)?;
     push_way(out, moved)
 }
 
@@ -57,12 +57,12 @@ fn push_from_to(out: &mut String, moved: &Moved, from: Vcpu, to: Vcpu) -> Result
         (string_bytes out.new ≡ string_bytes out.old ++ spec.from_to_words moved.now from.0 to.0) }
 {
     if from.0 == to.0 {
-        push_numbered(out, ", at processor ", to.0.into())?;
+        push_small(out, ", at processor ", to.0)?;
         out.push_str(" as before")?;
         return push_stayed(out, moved);
     }
-    push_numbered(out, ", from processor ", from.0.into())?;
-    push_numbered(out, " to processor ", to.0.into())?;
+    push_small(out, ", from processor ", from.0)?;
+    push_small(out, " to processor ", to.0)?;
     push_went(out, moved)
 }
 
@@ -73,7 +73,7 @@ fn push_stayed(out: &mut String, moved: &Moved) -> Result<(), AllocError>
 {
     match moved.change {
         PendingChange::Stayed => {
-            push_numbered(out, ", and its LPI ", moved.event.intid.0.into())?;
+            push_wide(out, ", and its LPI ", moved.event.intid.0)?;
             out.push_str(" stays pending there")
         }
         _ => Ok(()),
@@ -88,15 +88,15 @@ fn push_went(out: &mut String, moved: &Moved) -> Result<(), AllocError>
     let intid = moved.event.intid.0;
     match moved.change {
         PendingChange::Stayed => {
-            push_numbered(out, ", and its pending LPI ", intid.into())?;
+            push_wide(out, ", and its pending LPI ", intid)?;
             out.push_str(" too")
         }
         PendingChange::Began => {
-            push_numbered(out, ", where its LPI ", intid.into())?;
+            push_wide(out, ", where its LPI ", intid)?;
             out.push_str(" is pending already")
         }
         _ => {
-            push_numbered(out, "; its LPI ", intid.into())?;
+            push_wide(out, "; its LPI ", intid)?;
             out.push_str(" isn't pending")
         }
     }

@@ -41,6 +41,38 @@ pub fn push_in_hexadecimal(out: &mut String, words: &str, number: u64) -> Result
     push_hexadecimal(out, number)
 }
 
+/// Appends words, and a number of 16 bits.
+pub fn push_small(out: &mut String, words: &str, number: u16) -> Result<(), AllocError>
+    ensures { OnOk result
+        (string_bytes out.new ≡ string_bytes out.old ++ spec.numbered words.now number) }
+{
+    push_numbered(out, words, u64::from(number))
+}
+
+/// Appends words, and a number of 32 bits.
+pub fn push_wide(out: &mut String, words: &str, number: u32) -> Result<(), AllocError>
+    ensures { OnOk result
+        (string_bytes out.new ≡ string_bytes out.old ++ spec.numbered words.now number) }
+{
+    push_numbered(out, words, u64::from(number))
+}
+
+/// Appends words, and a byte in decimal.
+pub fn push_byte(out: &mut String, words: &str, number: u8) -> Result<(), AllocError>
+    ensures { OnOk result
+        (string_bytes out.new ≡ string_bytes out.old ++ spec.numbered words.now number) }
+{
+    push_numbered(out, words, u64::from(number))
+}
+
+/// Appends words, and a byte in hexadecimal.
+pub fn push_hex_byte(out: &mut String, words: &str, number: u8) -> Result<(), AllocError>
+    ensures { OnOk result
+        (string_bytes out.new ≡ string_bytes out.old ++ spec.in_hexadecimal words.now number) }
+{
+    push_in_hexadecimal(out, words, u64::from(number))
+}
+
 /// Appends the line whose command mapped something.
 #[tactic(auto, unfolding(crate::specs::Numbers::by_line))]
 pub fn push_by(out: &mut String, line: Option<u64>) -> Result<(), AllocError>
