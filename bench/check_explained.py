@@ -277,8 +277,8 @@ class Checker:
             return
         place = its.place()
         writer = self.model.writers.get(place // 32)
-        found = re.match(r"(?:not done, of (?:line (\d+)|0x\w+): |by line (\d+) |by the command at )",
-                         text)
+        found = re.match(r"(?:not done, of (?:line (\d+)|0x\w+, which no line wrote): |by line (\d+) |"
+                         r"by the command at )", text)
         self.expect("the command's line", int(found[1] or found[2] or 0), writer or 0)
         data = bytes(self.model.memory.get(place + n, 0) for n in range(32))
         its.advance()
