@@ -72,16 +72,17 @@ def comment(text):
 def header_page():
     """its.h(3), of the header."""
     header = read("include/its.h")
-    calls = re.findall(r"/\*((?:(?!\*/).)*)\*/\n(uint32_t its_\w+\([^;]*\);)", header, re.S)
-    assert len(calls) == len(re.findall(r"^uint32_t its_\w+\(", header, re.M))
+    calls = re.findall(r"/\*((?:(?!\*/).)*)\*/\n((?:uint32_t its_\w+\([^;]*\);\n)+)", header, re.S)
+    named = re.findall(r"^uint32_t its_\w+\(", header, re.M)
+    assert sum(len(re.findall(r"^uint32_t its_", those, re.M)) for _, those in calls) == len(named)
     first, *others = [it for it in comment(re.match(r"/\*(.*?)\*/", header, re.S)[1]) if not it.startswith("SPDX")]
     types = header[header.index("/* Counts the changes") :]
     types = types[: types.rindex("/*", 0, types.index("\nuint32_t its_"))]
     text = head("ITS.H", 3) + f"its.h \\- {roff(first[0].lower() + first[1:].removesuffix('.'))}\n"
-    text += '.SH SYNOPSIS\n.B #include <its.h>\n.PP\nLink with libits_c.a and with three functions of a heap, as examples/monitor/heap.c has them.\n'
+    text += '.SH SYNOPSIS\n.B #include <its.h>\n.PP\nLink with libits_c.a and with three functions of a heap, as examples/monitor/heap.c has them. its_share, its_split and the calls of a pass are in libits_shared.a, which this archive hasn\\(aqt.\n'
     text += ".SH DESCRIPTION\n" + "\n.PP\n".join(roff(it) for it in others) + "\n.SH CALLS\n"
     for said, call in calls:
-        text += f".PP\n.nf\n\\fB{roff(call)}\\fR\n.fi\n.RS\n" + "\n.PP\n".join(roff(it) for it in comment(said)) + "\n.RE\n"
+        text += f".PP\n.nf\n\\fB{roff(call.strip())}\\fR\n.fi\n.RS\n" + "\n.PP\n".join(roff(it) for it in comment(said)) + "\n.RE\n"
     return text + f".SH TYPES AND NUMBERS\n.nf\n{roff(types.strip())}\n.fi\n.SH SEE ALSO\n.BR its (1).\nThe page docs/LIBRARY.md.\n"
 
 
