@@ -10,7 +10,7 @@ use Rattle.its_answers.specs.Legs.{AllEnd}
 use Rattle.its_words.specs.Help.{help_text, version_text}
 use Rattle.its_words.specs.Words.{asked_of}
 use Rattle.its_words.specs.declared.words.Asked.{Asked}
-use Rattle.its_words.specs.declared.words.Asked.TheVariants.{Run, Check, Gen, Explain, Help, Version}
+use Rattle.its_words.specs.declared.words.Asked.TheVariants.{Run, Check, Gen, Explain, Draw, Help, Version}
 use Rattle.its_answers.specs.Checked.{CheckCauses}
 use Rattle.its_top.specs.Its.{Causes, WordsCauses, AskedCauses, IsDecided, IsRunDecided, AskedDecides, ReadDecides, TextCauses}
 use Rattle.its_answers.specs.Its.{RunCauses, IsScript, OfScript, IsReport, IsMigrationRefusal, IsSpentReport, ExplainCauses}
@@ -20,6 +20,8 @@ use Rattle.its_answers.specs.declared.status.Status.{Status}
 use Rattle.its_answers.specs.declared.status.Status.TheVariants as status
 use Rattle.its_top.proofs.Checks.{check_decided}
 use Rattle.its_answers.proofs.Explained.{as_run, as_check}
+use Rattle.its_draw.specs.Draws.{DrawCauses}
+use Rattle.its_draw.proofs.Said.{drawn_checks}
 use Rattle.its_answers.proofs.Once.{same_ok, not_both, first_once, made_once, too_short}
 use Rattle.its_top.proofs.Endings.{ends_well, ends_spent, ends_refused, all_end_well}
 
@@ -209,6 +211,9 @@ explain_decided input rose s text calm h = go (check_of input) refl
     go (Ok p) e = let c = as_check input rose s text h p e in check_decided input rose s c.0 calm c.1
     go (Err fault) e = let c = as_run input rose s text h fault e in run_decided input rose s c.0 calm c.1
 
+draw_decided : (input : List ℕ) (rose : Type 0) (s : Status) (text : List ℕ) → ¬ rose → DrawCauses (Some input) rose s text → IsCheckDecided input s
+draw_decided input rose s text calm h = let c = drawn_checks (Some input) rose s text h in check_decided input rose s c.0 calm c.1
+
 pub decided : (words : List (List ℕ)) (told : Option (List ℕ)) (rose : Type 0) (s : Status) (text : List ℕ) → ¬ rose → Causes words told rose s text
     → IsDecided words told s
 decided words told rose s text calm h = go (asked_of words) h
@@ -220,6 +225,7 @@ decided words told rose s text calm h = go (asked_of words) h
     go (Some (Gen signals threads)) h = gen_end signals threads s text h
     go (Some Explain) h = λ input tells. explain_decided input rose s text calm
         (subst (λ (o : Option (List ℕ)). ExplainCauses o rose s text) tells h)
+    go (Some Draw) h = λ input tells. draw_decided input rose s text calm (subst (λ (o : Option (List ℕ)). DrawCauses o rose s text) tells h)
     go (Some Help) h = text_end help_text s text h
     go (Some Version) h = text_end version_text s text h
 
@@ -256,5 +262,6 @@ no_write_fault words told rose s text h e = go (asked_of words) (subst (λ (t : 
     go (Some Check) h = h
     go (Some (Gen signals threads)) h = h
     go (Some Explain) h = h
+    go (Some Draw) h = h
     go (Some Help) h = h
     go (Some Version) h = h

@@ -13,12 +13,13 @@ use Rattle.its_top.specs.Streams.{IsAtEnd}
 use Rattle.its_history.specs.declared.trace.Leg.{Leg as LegLines}
 use Rattle.its_words.specs.Words.{asked_of}
 use Rattle.its_words.specs.declared.words.Asked.{Asked}
-use Rattle.its_words.specs.declared.words.Asked.TheVariants.{Run, Check, Gen, Explain, Help, Version}
+use Rattle.its_words.specs.declared.words.Asked.TheVariants.{Run, Check, Gen, Explain, Draw, Help, Version}
 use Rattle.its_words.specs.Help.{help_text, version_text}
 use Rattle.its_answers.specs.Legs.{HasPlaces, CanMigrate, AllEnd, all_told}
 use Rattle.trace_check.specs.Verdicts.{copies_of, IsReportOfRun}
 use Rattle.its_answers.specs.Checked.{CheckCauses, IsCheckInput, read_report}
 use Rattle.its_answers.specs.Its.{ExplainCauses, IsScript, RunCauses}
+use Rattle.its_draw.specs.Draws.{DrawCauses}
 use Rattle.its_top.specs.Summarized.{GenCauses}
 use Rattle.its_answers.specs.declared.status.Status.{Status}
 use Rattle.its_answers.specs.declared.status.Status.TheVariants as status
@@ -45,6 +46,7 @@ AskedCauses (Some Run) told rose s text = RunCauses told rose s text
 AskedCauses (Some Check) told rose s text = CheckCauses told rose s text
 AskedCauses (Some (Gen signals threads)) told rose s text = GenCauses signals threads s text
 AskedCauses (Some Explain) told rose s text = ExplainCauses told rose s text
+AskedCauses (Some Draw) told rose s text = DrawCauses told rose s text
 AskedCauses (Some Help) told rose s text = TextCauses help_text s text
 AskedCauses (Some Version) told rose s text = TextCauses version_text s text
 
@@ -58,9 +60,10 @@ abbrev pub AskedReads : Option Asked → Option (List ℕ) → Option (List ℕ)
 AskedReads (Some Run) before now = IsAtEnd before now
 AskedReads (Some Check) before now = IsAtEnd before now
 AskedReads (Some Explain) before now = IsAtEnd before now
+AskedReads (Some Draw) before now = IsAtEnd before now
 AskedReads _ before now = now ≡ before
 
--- `run`, `check` and `explain` read the source to its end, the others read nothing
+-- `run`, `check`, `explain` and `draw` read the source to its end, the others read nothing
 abbrev pub Reads : List (List ℕ) → Option (List ℕ) → Option (List ℕ) → Type 0
 Reads words before now = AskedReads (asked_of words) before now
 
@@ -83,7 +86,7 @@ pub record IsRunDecided (input : List ℕ) (s : Status) : Type 0 where
   pub complete : length input ≤ 16777216 → (script : Script) (first : Plain) → IsScript input script first → HasPlaces script.desc.limits.place_last script.legs
       → CanMigrate first script.legs → Ends s status.Ok
 
--- and that of `check`
+-- and that of `check`, which is also that of `draw`
 pub record IsCheckDecided (input : List ℕ) (s : Status) : Type 0 where
   pub too_long : 16777216 < length input → Ends s status.TooLong
   pub script_refused : length input ≤ 16777216 → (fault : ScriptFault) → check_of input ≡ Err fault → Ends s status.ScriptRefused
@@ -110,6 +113,7 @@ AskedDecides (Some Run) told s = (input : List ℕ) → told ≡ Some input → 
 AskedDecides (Some Check) told s = (input : List ℕ) → told ≡ Some input → IsCheckDecided input s
 AskedDecides (Some (Gen signals threads)) told s = Ends s status.Ok
 AskedDecides (Some Explain) told s = (input : List ℕ) → told ≡ Some input → ReadDecides (check_of input) input s
+AskedDecides (Some Draw) told s = (input : List ℕ) → told ≡ Some input → IsCheckDecided input s
 AskedDecides (Some Help) told s = Ends s status.Ok
 AskedDecides (Some Version) told s = Ends s status.Ok
 

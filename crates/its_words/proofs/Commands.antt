@@ -13,7 +13,7 @@ use Rattle.clap.proofs.OnLiterals.{clap_on_literals}
 use Rattle.its_words.specs.Command.{its_app}
 use Rattle.its_words.specs.Words.{alone, asked_by, asked_in, command_of, gen_by, gen_of, is_none, without_separator}
 use Rattle.its_words.specs.declared.words.Asked.{Asked}
-use Rattle.its_words.specs.declared.words.Asked.TheVariants.{Run, Check, Explain, Help, Version}
+use Rattle.its_words.specs.declared.words.Asked.TheVariants.{Run, Check, Explain, Draw, Help, Version}
 use Rattle.its_words.proofs.Bare.{bare, takes_none}
 use Rattle.its_words.proofs.Generated.{gen, takes_two}
 use Rattle.its_words.proofs.WordKinds.{kind_of_word}
@@ -78,6 +78,10 @@ explain_parsed : (program : Text) (rest : List Text) → parsed (program ∷ cod
 unfolding clap_on_literals
 explain_parsed program rest = goes_in program (codes "explain") rest refl refl ∙ bare_parsed (codes "explain") Explain rest
 
+draw_parsed : (program : Text) (rest : List Text) → parsed (program ∷ codes "draw" ∷ rest) ≡ alone Draw (without_separator rest)
+unfolding clap_on_literals
+draw_parsed program rest = goes_in program (codes "draw") rest refl refl ∙ bare_parsed (codes "draw") Draw rest
+
 help_parsed : (program : Text) (rest : List Text) → parsed (program ∷ codes "help" ∷ rest) ≡ alone Help (without_separator rest)
 unfolding clap_on_literals
 help_parsed program rest = goes_in program (codes "help") rest refl refl ∙ bare_parsed (codes "help") Help rest
@@ -126,23 +130,25 @@ module _ (program name : Text) (rest : List Text) where
   is_named w e h = subst Asks (sym (text_is w name e)) h
 
   no_command : (d : Bool) → bytes_eq name (codes "--") ≡ d → bytes_eq (codes "run") name ≡ false → bytes_eq (codes "check") name ≡ false
-      → bytes_eq (codes "gen") name ≡ false → bytes_eq (codes "explain") name ≡ false → bytes_eq (codes "help") name ≡ false
-      → bytes_eq (codes "version") name ≡ false → Asks name
-  no_command true ed er ek eg ex eh ev = subst Asks (sym ((bytes_eq-Decides name (codes "--")).0 ed)) (separator_parsed program rest)
-  no_command false ed er ek eg ex eh ev = other_parsed program name rest ed (rw (er, ek, eg, ex, eh, ev) refl) ∙ rw (er, ek, eg, ex, eh, ev) refl
+      → bytes_eq (codes "gen") name ≡ false → bytes_eq (codes "explain") name ≡ false → bytes_eq (codes "draw") name ≡ false
+      → bytes_eq (codes "help") name ≡ false → bytes_eq (codes "version") name ≡ false → Asks name
+  no_command true ed er ek eg ex ew eh ev = subst Asks (sym ((bytes_eq-Decides name (codes "--")).0 ed)) (separator_parsed program rest)
+  no_command false ed er ek eg ex ew eh ev = other_parsed program name rest ed (rw (er, ek, eg, ex, ew, eh, ev) refl) ∙ rw (er, ek, eg, ex, ew, eh, ev) refl
 
-  by_later : (x h v : Bool) → bytes_eq (codes "explain") name ≡ x → bytes_eq (codes "help") name ≡ h → bytes_eq (codes "version") name ≡ v
+  by_later : (x w h v : Bool) → bytes_eq (codes "explain") name ≡ x → bytes_eq (codes "draw") name ≡ w → bytes_eq (codes "help") name ≡ h
+      → bytes_eq (codes "version") name ≡ v
       → bytes_eq (codes "run") name ≡ false → bytes_eq (codes "check") name ≡ false → bytes_eq (codes "gen") name ≡ false → Asks name
-  by_later true h v ex eh ev er ek eg = is_named (codes "explain") ex (explain_parsed program rest)
-  by_later false true v ex eh ev er ek eg = is_named (codes "help") eh (help_parsed program rest)
-  by_later false false true ex eh ev er ek eg = is_named (codes "version") ev (version_parsed program rest)
-  by_later false false false ex eh ev er ek eg = no_command _ refl er ek eg ex eh ev
+  by_later true w h v ex ew eh ev er ek eg = is_named (codes "explain") ex (explain_parsed program rest)
+  by_later false true h v ex ew eh ev er ek eg = is_named (codes "draw") ew (draw_parsed program rest)
+  by_later false false true v ex ew eh ev er ek eg = is_named (codes "help") eh (help_parsed program rest)
+  by_later false false false true ex ew eh ev er ek eg = is_named (codes "version") ev (version_parsed program rest)
+  by_later false false false false ex ew eh ev er ek eg = no_command _ refl er ek eg ex ew eh ev
 
   by_name : (r k g : Bool) → bytes_eq (codes "run") name ≡ r → bytes_eq (codes "check") name ≡ k → bytes_eq (codes "gen") name ≡ g → Asks name
   by_name true k g er ek eg = is_named (codes "run") er (run_parsed program rest)
   by_name false true g er ek eg = is_named (codes "check") ek (check_parsed program rest)
   by_name false false true er ek eg = is_named (codes "gen") eg (gen_parsed program rest)
-  by_name false false false er ek eg = by_later _ _ _ refl refl refl er ek eg
+  by_name false false false er ek eg = by_later _ _ _ _ refl refl refl refl er ek eg
 
 -- the parser makes of words what a command asks for
 pub parsed-command_of : (words : List Text) → parsed words ≡ command_of words

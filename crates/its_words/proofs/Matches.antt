@@ -23,25 +23,27 @@ differ a b no-eq = go (bytes_eq a b) refl
 
 asks_gen : (o : Option (Text × List Row)) (name : Text) (rows : List Row) → Some name ≡ option_map (λ p. p.0) o → Some rows ≡ option_map (λ p. p.1) o
     → bytes_eq name (codes "run") ≡ false → bytes_eq name (codes "check") ≡ false
-    → bytes_eq name (codes "explain") ≡ false → bytes_eq name (codes "help") ≡ false → bytes_eq name (codes "version") ≡ false
+    → bytes_eq name (codes "explain") ≡ false → bytes_eq name (codes "draw") ≡ false
+    → bytes_eq name (codes "help") ≡ false → bytes_eq name (codes "version") ≡ false
     → gen_by (first_of (codes "signals") rows) (first_of (codes "threads") rows) ≡ asked_in o
-asks_gen None name rows n r run check explain help version = cc
-asks_gen (Some (a, b)) name rows n r run check explain help version =
+asks_gen None name rows n r run check explain draw help version = cc
+asks_gen (Some (a, b)) name rows n r run check explain draw help version =
     let same : name ≡ a = cc in
     let rows_are : rows ≡ b = cc in
     let not_run : bytes_eq a (codes "run") ≡ false = subst (λ t. bytes_eq t (codes "run") ≡ false) same run in
     let not_check : bytes_eq a (codes "check") ≡ false = subst (λ t. bytes_eq t (codes "check") ≡ false) same check in
     let not_explain : bytes_eq a (codes "explain") ≡ false = subst (λ t. bytes_eq t (codes "explain") ≡ false) same explain in
+    let not_draw : bytes_eq a (codes "draw") ≡ false = subst (λ t. bytes_eq t (codes "draw") ≡ false) same draw in
     let not_help : bytes_eq a (codes "help") ≡ false = subst (λ t. bytes_eq t (codes "help") ≡ false) same help in
     let not_version : bytes_eq a (codes "version") ≡ false = subst (λ t. bytes_eq t (codes "version") ≡ false) same version in
-    rw (not_run, not_check, not_explain, not_help, not_version, rows_are) refl
+    rw (not_run, not_check, not_explain, not_draw, not_help, not_version, rows_are) refl
 
 pub reads_gen : (m inner : ArgMatches) (name : Text) → Some name ≡ subcommand_name_of m → Some (rows_of (found_of inner)) ≡ option_map (λ p. p.1)
     (subcommand_rows_of m)
     → (name ≡ codes "run" → ⊥) → (name ≡ codes "check" → ⊥)
-    → (name ≡ codes "explain" → ⊥) → (name ≡ codes "help" → ⊥) → (name ≡ codes "version" → ⊥)
+    → (name ≡ codes "explain" → ⊥) → (name ≡ codes "draw" → ⊥) → (name ≡ codes "help" → ⊥) → (name ≡ codes "version" → ⊥)
     → gen_by (first_value (found_of inner) (codes "signals")) (first_value (found_of inner) (codes "threads")) ≡ asked_in (subcommand_rows_of m)
-reads_gen m inner name n r run check explain help version =
+reads_gen m inner name n r run check explain draw help version =
     ap₂ gen_by (first_value-rows (found_of inner) (codes "signals")) (first_value-rows (found_of inner) (codes "threads"))
     ∙ asks_gen (subcommand_rows_of m) name (rows_of (found_of inner)) (n ∙ named m) r (differ name _ run) (differ name _ check)
-    (differ name _ explain) (differ name _ help) (differ name _ version)
+    (differ name _ explain) (differ name _ draw) (differ name _ help) (differ name _ version)

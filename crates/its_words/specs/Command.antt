@@ -21,4 +21,5 @@ running_app = with_subcommand (with_subcommand (with_subcommand bare_app (new_ap
 
 abbrev pub its_app : App
 its_app =
-    with_subcommand (with_subcommand (with_subcommand running_app (new_app (codes "explain")).top) (new_app (codes "help")).top) (new_app (codes "version")).top
+    with_subcommand (with_subcommand (with_subcommand (with_subcommand running_app (new_app (codes "explain")).top) (new_app (codes "draw")).top)
+    (new_app (codes "help")).top) (new_app (codes "version")).top

@@ -8,6 +8,7 @@ help_text =
     ++ codes "its run       plays the script of standard input, and prints its report\n"
     ++ codes "its check     reads a script, a line `trace` and a report: whether a run has it\n"
     ++ codes "its explain   reads what one of these reads, and says what came of each call\n"
+    ++ codes "its draw      reads what `check` reads, and prints a picture of it, an SVG\n"
     ++ codes "its gen N T   plays a made script: N signals (1 to 20000) of T threads (1 to 63)\n"
     ++ codes "its help      prints this; so do `its --help` and `its -h`\n"
     ++ codes "its version   prints version, kit and limits; so do `its --version` and `its -V`\n"

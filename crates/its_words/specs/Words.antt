@@ -7,7 +7,7 @@ use Rattle.clap.specs.Words.{Row, Text, fault_of, first_of, subcommand_of, subco
 use Rattle.clap.specs.declared.ArgMatches.{ArgMatches}
 use Rattle.its_words.specs.Command.{its_app}
 use Rattle.its_words.specs.declared.words.Asked.{Asked}
-use Rattle.its_words.specs.declared.words.Asked.TheVariants.{Run, Check, Gen, Explain, Help, Version}
+use Rattle.its_words.specs.declared.words.Asked.TheVariants.{Run, Check, Gen, Explain, Draw, Help, Version}
 
 -- ---- numbers
 
@@ -42,8 +42,9 @@ asked_by name words =
     else (if bytes_eq (codes "check") name then alone Check words
     else (if bytes_eq (codes "gen") name then gen_of words
     else (if bytes_eq (codes "explain") name then alone Explain words
+    else (if bytes_eq (codes "draw") name then alone Draw words
     else (if bytes_eq (codes "help") name then alone Help words
-    else (if bytes_eq (codes "version") name then alone Version words else None)))))
+    else (if bytes_eq (codes "version") name then alone Version words else None))))))
 
 -- the words without the first `--`, after which no word names an option
 abbrev pub without_separator : List Text → List Text
@@ -92,9 +93,10 @@ asked_in (Some (name, rows)) =
     if bytes_eq name (codes "run") then Some Run
     else (if bytes_eq name (codes "check") then Some Check
     else (if bytes_eq name (codes "explain") then Some Explain
+    else (if bytes_eq name (codes "draw") then Some Draw
     else (if bytes_eq name (codes "help") then Some Help
     else (if bytes_eq name (codes "version") then Some Version
-    else gen_by (first_of (codes "signals") rows) (first_of (codes "threads") rows)))))
+    else gen_by (first_of (codes "signals") rows) (first_of (codes "threads") rows))))))
 
 -- the parser finds no fault with the words
 unfoldable pub is_taken : List Text → Bool
@@ -111,5 +113,6 @@ IsInRange Run = Unit {0}
 IsInRange Check = Unit {0}
 IsInRange (Gen n t) = (1 ≤ n) × (n ≤ 20000) × (1 ≤ t) × (t ≤ 63)
 IsInRange Explain = Unit {0}
+IsInRange Draw = Unit {0}
 IsInRange Help = Unit {0}
 IsInRange Version = Unit {0}

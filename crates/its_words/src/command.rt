@@ -12,10 +12,12 @@ pub fn its_command<'a>(alloc: Global) -> Result<Command<'a>, AllocError>
     ensures { IfOk result (λ c. app_of c ≡ its_app) }
 {
     let explain = Command::new(alloc, "explain");
+    let draw = Command::new(alloc, "draw");
     let help = Command::new(alloc, "help");
     let version = Command::new(alloc, "version");
     running_command(alloc)?
         .subcommand(explain)?
+        .subcommand(draw)?
         .subcommand(help)?
         .subcommand(version)
 }

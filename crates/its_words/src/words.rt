@@ -32,6 +32,8 @@ pub enum Asked {
     Gen { signals: u32, threads: u32 },
     /// Says of a script, or of one with a report, what is wrong with it or what happens.
     Explain,
+    /// Draws the report of a run.
+    Draw,
     /// Says what the commands are.
     Help,
     /// Says which version this is.
@@ -137,6 +139,7 @@ fn read(matches: &ArgMatches) -> Option<Asked>
         "run" => Some(Asked::Run),
         "check" => Some(Asked::Check),
         "explain" => Some(Asked::Explain),
+        "draw" => Some(Asked::Draw),
         "help" => Some(Asked::Help),
         "version" => Some(Asked::Version),
         _ => generation(matches),

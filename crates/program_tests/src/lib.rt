@@ -11,6 +11,8 @@ mod copy_tests;
 #[cfg(test)]
 mod doorbell_tests;
 #[cfg(test)]
+mod draw_tests;
+#[cfg(test)]
 mod generated_tests;
 #[cfg(test)]
 mod gicr_tests;

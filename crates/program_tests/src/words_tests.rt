@@ -5,7 +5,7 @@ use std::test::Fail;
 
 const REFUSED: Result<Asked, WordsError> = Err(WordsError::Refused);
 
-const ROWS: [(&str, Result<Asked, WordsError>); 21] = [
+const ROWS: [(&str, Result<Asked, WordsError>); 22] = [
     ("its run", Ok(Asked::Run)),
     ("its check --", Ok(Asked::Check)),
     (
@@ -17,6 +17,7 @@ const ROWS: [(&str, Result<Asked, WordsError>); 21] = [
     ),
     ("its", REFUSED),
     ("its explain", Ok(Asked::Explain)),
+    ("its draw", Ok(Asked::Draw)),
     ("its -- help", REFUSED),
     ("its help", Ok(Asked::Help)),
     ("its help run", REFUSED),

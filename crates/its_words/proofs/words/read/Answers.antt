@@ -6,4 +6,4 @@ pub returns-in_default-clause-value : goal.returns-in_default-clause-value
 returns-in_default-clause-value c =
     c.generation.ensures.value ∙ reads_gen c.args.matches.now c.in_ok-name.matches.now c.in_ok-name.name.now c.in_ok-name.ensures.name c.in_ok-name.ensures.rows
     c.in_default.not-run c.in_default.not-check c.in_default.not-explain
-    c.in_default.not-help c.in_default.not-version
+    c.in_default.not-draw c.in_default.not-help c.in_default.not-version
