@@ -2,7 +2,7 @@
 use Rattle.std.proofs.Common.{◌≡◌, ℕ, zero, suc, ◌+◌, ◌<◌, ◌≤◌, Bool, List, [], ◌∷◌, ◌++◌, length, take, drop, get_or, Some, refl, sym, ap, subst, ◌∙◌, arith}
 use Rattle.std.proofs.Common.{append_assoc, append-nil}
 use Rattle.std.specs.List.{flat_map}
-use Rattle.std.proofs.lemmas.List.{drop_more, drop_all, drop-drop, length-drop, take-append-drop}
+use Rattle.std.proofs.lemmas.List.{drop_more, drop_all, drop-drop, length-drop, take_more, take-append-drop}
 use Rattle.its_plain.specs.History.{after}
 use Rattle.its_plain.specs.Plain.{Plain}
 use Rattle.its_plain.specs.Runs.{Leg, IsLegRun, IsRun}
@@ -15,7 +15,7 @@ use Rattle.its_history.specs.declared.trace.Leg.{Leg as LegLines}
 use Rattle.trace_check.specs.Differences.{lines as run_lines}
 use Rattle.trace_check.specs.Verdicts.{copies_of}
 use Rattle.trace_check.proofs.Lists.{head_is, tail_is}
-use Rattle.its_draw.specs.Replays.{ShowsRun, ShowsRuns, all_marks, marks, marks_of}
+use Rattle.its_draw.specs.Replays.{ShowsRun, ShowsRuns, all_lines, all_marks, leg_lines, lines, marks, marks_of, told}
 use Rattle.its_draw.specs.declared.drawing.Shown.{Shown}
 
 -- ---- lists
@@ -33,7 +33,7 @@ cut_one zero (y ∷ xs) x rest e = ((λ d. head_is e d ∷ []), tail_is e)
 cut_one (suc k) [] x rest e = absurd (cc e)
 cut_one {A = A} (suc k) (y ∷ xs) x rest e = let r = cut_one k xs x rest e in (ap (λ (l : List A). y ∷ l) r.0, r.1)
 
-head_or : Leg → List Leg → Leg
+abbrev head_or : Leg → List Leg → Leg
 head_or none [] = none
 head_or none (leg ∷ legs) = leg
 
@@ -42,6 +42,20 @@ head_left zero [] = refl
 head_left zero (leg ∷ legs) = refl
 head_left (suc k) [] = refl
 head_left (suc k) (leg ∷ legs) = head_left k legs
+
+-- ---- lines
+
+pub told_none : (first : List Shown) → told first ≡ told first ++ []
+told_none first = sym (append-nil (told first))
+
+pub told_leg : (legs : List LegLines) (k : ℕ) (t : LegLines) → k < length legs → t ≡ get_or legs k t → (first before now : List Shown)
+    → told before ≡ told first ++ all_lines (take k legs) → told now ≡ told before ++ lines t.entries → told now ≡ told first ++ all_lines (take (k + 1) legs)
+told_leg legs k t lt is first before now so_far here =
+    let front : take (k + 1) legs ≡ take k legs ++ t ∷ [] = take_more legs k t lt ∙ (λ d. take k legs ++ sym is d ∷ []) in
+    here
+    ∙ (ap (λ ls. ls ++ lines t.entries) so_far
+    ∙ (append_assoc (told first) (all_lines (take k legs)) (lines t.entries)
+    ∙ ap (λ ls. told first ++ ls) (sym (ap all_lines front ∙ flat_more leg_lines (take k legs) t))))
 
 -- ---- the first of the legs that are left
 
@@ -98,40 +112,40 @@ none_left now (leg ∷ (next ∷ legs)) copies hs run same =
 -- ---- runs of a script
 
 -- the first k legs of this one are made and shown
-pub record ShownTo (legs : List Leg) (copies : List Bool) (told : List LegLines) (before : List Shown) (hs : List (List Entry)) (k : ℕ) (shown : List Shown)
+pub record ShownTo (legs : List Leg) (copies : List Bool) (said : List LegLines) (before : List Shown) (hs : List (List Entry)) (k : ℕ) (shown : List Shown)
     (now : Plain) : Type 0 where
   pub marks_are : marks shown ≡ marks before ++ all_marks (take k hs)
   pub run_left : IsRun now (drop k legs) (drop k hs)
-  pub told_left : drop k told ≡ reported now (drop k legs) (drop k copies) (drop k hs)
+  pub told_left : drop k said ≡ reported now (drop k legs) (drop k copies) (drop k hs)
 
 -- those of each run that has these lines are
 abbrev pub Showing : Plain → Script → List LegLines → List Shown → ℕ → List Shown → Plain → Type 0
-Showing first script told before k shown now =
-    (hs : List (List Entry)) → IsRun first script.legs hs → told ≡ reported first script.legs (copies_of script.moves) hs
-    → ShownTo script.legs (copies_of script.moves) told before hs k shown now
+Showing first script said before k shown now =
+    (hs : List (List Entry)) → IsRun first script.legs hs → said ≡ reported first script.legs (copies_of script.moves) hs
+    → ShownTo script.legs (copies_of script.moves) said before hs k shown now
 
-pub showing_none : (first : Plain) (script : Script) (told : List LegLines) (before : List Shown) → Showing first script told before 0 before first
-showing_none first script told before = λ hs run same. record {
+pub showing_none : (first : Plain) (script : Script) (said : List LegLines) (before : List Shown) → Showing first script said before 0 before first
+showing_none first script said before = λ hs run same. record {
   marks_are = sym (append-nil (marks before));
   run_left = run;
   told_left = same;
 }
 
-module _ (first : Plain) (script : Script) (told : List LegLines) (before : List Shown) (k : ℕ) (shown : List Shown) (u : Plain)
-    (g : Showing first script told before k shown u) where
+module _ (first : Plain) (script : Script) (said : List LegLines) (before : List Shown) (k : ℕ) (shown : List Shown) (u : Plain)
+    (g : Showing first script said before k shown u) where
   abbrev legs : List Leg
   legs = script.legs
 
   abbrev copies : List Bool
   copies = copies_of script.moves
 
-  pub showing_more : (leg : Leg) (t : LegLines) (now : List Shown) (w x : Plain) → leg ≡ get_or legs k [] → k < length told → t ≡ get_or told k t
-      → ShowsRun u leg t.entries shown now w → (k + 1 < length legs → IsSavable w → x ≡ moved w) → Showing first script told before (k + 1) now x
+  pub showing_more : (leg : Leg) (t : LegLines) (now : List Shown) (w x : Plain) → leg ≡ get_or legs k [] → k < length said → t ≡ get_or said k t
+      → ShowsRun u leg t.entries shown now w → (k + 1 < length legs → IsSavable w → x ≡ moved w) → Showing first script said before (k + 1) now x
   showing_more leg t now w x leg_is lt t_at shows moves = λ hs run same.
       let at = g hs run same in
-      let left : drop k told ≡ t ∷ drop (k + 1) told = drop_more told k t lt ∙ ap (λ l. l ∷ drop (k + 1) told) (sym t_at) in
-      let f : FirstLeft u (head_or [] (drop k legs)) (drop k legs) (drop k copies) t (drop (k + 1) told) (drop k hs) =
-      first_left u (drop k legs) (drop k copies) t (drop (k + 1) told) (drop k hs) at.run_left (sym left ∙ at.told_left) in
+      let left : drop k said ≡ t ∷ drop (k + 1) said = drop_more said k t lt ∙ ap (λ l. l ∷ drop (k + 1) said) (sym t_at) in
+      let f : FirstLeft u (head_or [] (drop k legs)) (drop k legs) (drop k copies) t (drop (k + 1) said) (drop k hs) =
+      first_left u (drop k legs) (drop k copies) t (drop (k + 1) said) (drop k hs) at.run_left (sym left ∙ at.told_left) in
       let is : head_or [] (drop k legs) ≡ leg = sym (leg_is ∙ head_left k legs) in
       let made = shows f.history (subst (λ (l : Leg). IsLegRun u l f.history) is f.is_run) (f.entries ∙ ap (λ (l : Leg). run_lines l f.history) is) in
       let one : k + 1 ≡ suc k = omega arith in
@@ -151,9 +165,9 @@ module _ (first : Plain) (script : Script) (told : List LegLines) (before : List
         told_left = n.1 ∙ (λ d. reported x (drop_one k legs d) (drop_one k copies d) (rest d));
       }
 
-  pub showing_all : length told ≤ k → ShowsRuns first script told before shown
+  pub showing_all : length said ≤ k → ShowsRuns first script said before shown
   showing_all le = λ hs run same.
       let at = g hs run same in
-      let none : drop k hs ≡ [] = none_left u (drop k legs) (drop k copies) (drop k hs) at.run_left (sym (drop_all k told le) ∙ at.told_left) in
+      let none : drop k hs ≡ [] = none_left u (drop k legs) (drop k copies) (drop k hs) at.run_left (sym (drop_all k said le) ∙ at.told_left) in
       let all : take k hs ≡ hs = sym (append-nil (take k hs)) ∙ (ap (λ (l : List (List Entry)). take k hs ++ l) (sym none) ∙ take-append-drop k hs) in
       at.marks_are ∙ ap (λ (l : List (List Entry)). marks before ++ all_marks l) all

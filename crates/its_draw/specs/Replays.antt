@@ -9,11 +9,12 @@ use Rattle.its_plain.specs.declared.call.Call.{Call}
 use Rattle.its_plain.specs.declared.call.Entry.{Entry}
 use Rattle.event_script.specs.declared.script.Script.{Script}
 use Rattle.its_history.specs.Report.{told_text}
+use Rattle.its_history.specs.Reports.{reported}
 use Rattle.its_history.specs.declared.trace.EntryLine.{EntryLine}
 use Rattle.its_history.specs.declared.trace.Leg.{Leg as LegLines}
 use Rattle.trace_check.specs.Cursors.{Progress, next_call, taken}
 use Rattle.trace_check.specs.Differences.{lines as run_lines}
-use Rattle.its_answers.specs.Legs.{all_told}
+use Rattle.trace_check.specs.Verdicts.{copies_of}
 use Rattle.its_draw.specs.Marks.{mark_of}
 use Rattle.its_draw.specs.declared.drawing.Shown.{Shown}
 use Rattle.its_draw.specs.declared.mark.Mark.{Mark}
@@ -75,5 +76,5 @@ ShowsRun first leg entries before shown now =
 -- where this is what a report tells of a run of the script, each call of all its legs is shown as it was answered
 abbrev pub ShowsRuns : Plain → Script → List LegLines → List Shown → List Shown → Type 0
 ShowsRuns first script legs before shown =
-    (histories : List (List Entry)) → IsRun first script.legs histories → legs ≡ all_told script first histories
+    (histories : List (List Entry)) → IsRun first script.legs histories → legs ≡ reported first script.legs (copies_of script.moves) histories
     → marks shown ≡ marks before ++ all_marks histories

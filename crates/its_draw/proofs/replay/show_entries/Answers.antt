@@ -4,11 +4,12 @@ use Rattle.its_draw.proofs.Shows.{told_more, going_none, going_more, going_all}
 use Rattle.its_draw.proofs.replay.show_entries.Goals as goal
 
 pub loop-line-init : goal.loop-line-init
-loop-line-init c = record {
-  shown_so_far = refl;
-  counted = c.in_ok-cursor.ensures.counted;
-  run_so_far = going_none c.args.machine.now c.args.leg.now c.args.entries.now (progress c.in_ok-cursor.cursor) c.in_ok-cursor.ensures.at;
-}
+loop-line-init c =
+    rw c.new-shown.ensures.items (record {
+      shown_so_far = refl;
+      counted = c.in_ok-cursor.ensures.counted;
+      run_so_far = going_none c.args.machine.now c.args.leg.now c.args.entries.now (progress c.in_ok-cursor.cursor) c.in_ok-cursor.ensures.at;
+    })
 
 pub loop-line-preserved : goal.loop-line-preserved
 loop-line-preserved c =
