@@ -95,9 +95,10 @@ first_left now (leg ∷ (next ∷ legs)) copies t later hs run same =
       entries = λ d. (head_is whole d).entries;
       savable = λ some. run.4;
       next = λ x is.
-          let moves : moved (after now run.0) ≡ x = sym (is (omega arith)) in
-          (subst (λ (u : Plain). IsRun u (next ∷ legs) run.1) moves run.5,
-          tail_is whole ∙ ap (λ (u : Plain). reported u (next ∷ legs) (drop 1 copies) run.1) moves);
+          let moves : moved (after now run.0) ≡ x = sym (is (omega arith)) in (
+            subst (λ (u : Plain). IsRun u (next ∷ legs) run.1) moves run.5,
+            tail_is whole ∙ ap (λ (u : Plain). reported u (next ∷ legs) (drop 1 copies) run.1) moves,
+          );
     }
 
 none_left : (now : Plain) (legs : List Leg) (copies : List Bool) (hs : List (List Entry)) → IsRun now legs hs → [] ≡ reported now legs copies hs → hs ≡ []

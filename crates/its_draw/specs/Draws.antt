@@ -1,7 +1,5 @@
 -- What `draw` says of a script and a report.
-use Rattle.std.specs.Prelude.{◌≡◌, ℕ, List, [], codes, Option, Ok, IfOk}
-use Rattle.event_script.specs.Script.{check_of}
-use Rattle.event_script.specs.Text.{parts}
+use Rattle.std.specs.Prelude.{◌≡◌, ℕ, List, [], codes, Option, Ok}
 use Rattle.event_script.specs.declared.script.Script.{Script}
 use Rattle.its_plain.specs.Described.{IsFirstState}
 use Rattle.its_plain.specs.Machine.{IsDescription}
