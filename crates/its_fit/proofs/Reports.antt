@@ -60,3 +60,14 @@ all_left threads all entries rest none names = record {
   are_lines = names;
   same = ap (λ (x : List EntryLine). x ++ entries_from (length x) all) none;
 }
+
+-- the same by other names
+pub next_left : (threads : List (List Answered)) (all : List Line) (entries more : List EntryLine) (n : ℕ) (m : Made) (rest later : List Made) (entry : EntryLine)
+    → rest ≡ m ∷ later → more ≡ entries ++ entry ∷ [] → n ≡ length entries
+    → ((l : Line) → AreLinesOf threads (m ∷ []) (l ∷ []) → entry ∷ [] ≡ entries_from n (l ∷ [])) → Left threads all entries rest
+    → Left threads all more later
+next_left threads all entries more n m rest later entry next pushed place is x =
+    let here : (l : Line) → AreLinesOf threads (m ∷ []) (l ∷ []) → entry ∷ [] ≡ entries_from (length entries) (l ∷ []) =
+    subst (λ (k : ℕ). (l : Line) → AreLinesOf threads (m ∷ []) (l ∷ []) → entry ∷ [] ≡ entries_from k (l ∷ [])) place is in
+    subst (λ (xs : List EntryLine). Left threads all xs later) (sym pushed)
+    (one_more threads all entries m later entry here (subst (λ (ms : List Made). Left threads all entries ms) next x))
