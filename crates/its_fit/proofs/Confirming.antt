@@ -33,6 +33,7 @@ shape_of vcpus legs lines pending told long one e =
 pub fit_of : (d : Desc) (calls : Phase) (told : Told) (made : List Made) (u : Plain) (legs : List Leg) (lines : List LegLines) (o : IsOrdered told.threads made)
     → IsFirstState d u → legs ≡ (calls ∷ []) ∷ [] → lines ≡ report_of o.lines told.pending ∷ [] → IsReportOfRun u legs [] lines → IsFit d calls told lines
 fit_of d calls told made u legs lines o starts one e run = record {
+  made = (u, starts);
   lines = o.lines;
   explains = λ first is. record {
     merge = o.merge;

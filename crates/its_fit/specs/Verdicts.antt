@@ -13,8 +13,9 @@ use Rattle.its_fit.specs.declared.search.Verdict.{Verdict}
 use Rattle.its_fit.specs.declared.search.Verdict.TheVariants.{Fits, Nowhere, Undecided, Unconfirmed}
 use Rattle.its_fit.specs.declared.told.Told.{Told}
 
--- these legs are the report of an order that explains what the threads of a described machine were answered
+-- The description makes a machine, and these legs are the report of an order that explains what the threads of this machine were answered.
 pub record IsFit (d : Desc) (calls : Phase) (told : Told) (legs : List LegLines) : Type 0 where
+  pub made : (first : Plain) × IsFirstState d first
   pub lines : List Line
   pub explains : (first : Plain) → IsFirstState d first → Explains first calls told lines
   pub report : legs ≡ report_of lines told.pending ∷ []

@@ -25,21 +25,35 @@ use its_types::Listed;
 use std::alloc::{AllocError, Global};
 use trace_check::{Verdict as Checked, check};
 
-/// Whether a history explains what threads were answered.
+/// Whether a history explains what threads were answered. An order names a thread, counted from 0,
+/// for each call: where it stands once more, its next call comes.
 #[derive(Drop)]
 pub enum Verdict {
-    /// This is the report of one, with its places.
+    /// This is the report of one: one leg of one phase, with a place for each call.
     Fits(Trace),
-    /// None does. Some of the calls went in this order, and no tried one is longer.
+    /// None does. Some of the calls went in this order from the start, each answered as it was, and
+    /// of the orders from which the search went back none is longer.
     Nowhere(Vec<usize>),
     /// So many calls were tried, and no more may be.
     Undecided(u64),
-    /// What is told goes in this order, but a report of it wasn't confirmed.
+    /// The search found this order: each call is answered as it was, and that is pending at the end
+    /// which is told. But the report of it isn't that of a run of the given calls that agrees with
+    /// all times, so neither of the first two can be said. It is for what no threads tell: a call
+    /// that returned before an earlier one of its thread had, or fewer answers than calls. That it
+    /// comes for nothing else no clause says.
     Unconfirmed(Vec<usize>),
 }
 
-/// Looks for a history that explains what threads were answered, and tries at most so many calls
-/// once a guess has failed. The leg is that of the recording.
+/// Looks for a history that explains what threads were answered: an order of just the calls that
+/// were given, each once and each thread's in its order, in which a call that returned before
+/// another began stands before it, and of which the plain translator gives these replies and leaves
+/// this pending. Times are those of any one clock; a call that began when another returned may
+/// stand on either side of it, and one that returned before it began fits nowhere.
+///
+/// The leg is that of the recording, alone. A guess comes first, which goes by the times at which
+/// calls returned and is bounded by itself; once it has failed, at most `bound` calls are tried,
+/// each after all that come before it are made again. A description that makes no machine is
+/// answered as if memory had run out.
 pub fn fit(
     alloc: Global,
     recording: &Recording<'_>,
