@@ -1,9 +1,9 @@
 -- Whether a call is answered as it was.
-use Rattle.std.proofs.Common.{◌≡◌, ◌≢◌, ℕ, Bool, true, false, List, [], ◌∷◌, ◌++◌, Option, Some, None, refl, sym, ap, subst, ◌∙◌, Decides}
+use Rattle.std.proofs.Common.{◌≡◌, ℕ, Bool, true, false, List, [], ◌∷◌, ◌++◌, Option, Some, None, sym, ap, subst, ◌∙◌, Decides}
 use Rattle.its_plain.specs.Plain.{Plain}
 use Rattle.its_plain.specs.Answer.{answer}
 use Rattle.its_plain.specs.Described.{IsFirstState}
-use Rattle.its_plain.specs.Machine.{IsDescription, HasTablesFor}
+use Rattle.its_plain.specs.Machine.{HasTablesFor}
 use Rattle.its_plain.specs.Runs.{Phase}
 use Rattle.its_plain.specs.declared.call.Call.{Call}
 use Rattle.its_plain.specs.declared.desc.Desc.{Desc}

@@ -9,7 +9,7 @@ use Rattle.its_plain.specs.declared.desc.Desc.{Desc}
 use Rattle.its_history.specs.ReadBack.{HasShape}
 use Rattle.its_history.specs.declared.trace.Leg.{Leg as LegLines}
 use Rattle.trace_check.specs.Verdicts.{IsReportOfRun}
-use Rattle.its_fit.specs.Explained.{Line, Explains, report_of}
+use Rattle.its_fit.specs.Explained.{Line, report_of}
 use Rattle.its_fit.specs.Ordered.{IsOrdered}
 use Rattle.its_fit.specs.Replays.{Goes, spans_of}
 use Rattle.its_fit.specs.Verdicts.{IsFit, IsStart}

@@ -1,11 +1,11 @@
 -- What explains the replies is an order that a search finds.
-use Rattle.std.proofs.Common.{◌≡◌, ◌≢◌, ℕ, zero, suc, ◌+◌, ◌<◌, ◌≤◌, Bool, true, false, List, [], ◌∷◌, ◌++◌, length, map, drop, replicate, get_or, cond, ◌-◌, Option, Some, None}
+use Rattle.std.proofs.Common.{◌≡◌, ◌≢◌, ℕ, zero, suc, ◌+◌, ◌<◌, ◌≤◌, List, [], ◌∷◌, ◌++◌, length, map, drop, cond, ◌-◌, Option, Some, None}
 use Rattle.std.proofs.Common.{refl, sym, ap, subst, ◌∙◌, inl, inr, arith, append-nil, le-leb}
 use Rattle.std.proofs.lemmas.Bool.{cases_eq, cases_lt}
 use Rattle.std.proofs.lemmas.List.{get_or-map, get_or_past, get_or-set_same, get_or-set_other, length-map, length-replicate, length-set}
 use Rattle.std.specs.List.{AllByRecursion}
-use Rattle.std.specs.Prelude.{slice_get, slice_index, slice_index_or, option_map}
-use Rattle.front_search.specs.Fits.{Answers, GoesTo, Fits}
+use Rattle.std.specs.Prelude.{slice_get, slice_index_or, option_map}
+use Rattle.front_search.specs.Fits.{Fits}
 use Rattle.front_search.specs.Fronts.{Threads, Front, MayGo, IsWhole, next_of, more, placed, start}
 use Rattle.front_search.specs.Trails.{NoneFits}
 use Rattle.front_search.specs.declared.span.Span.{Span}
@@ -14,7 +14,6 @@ use Rattle.its_plain.specs.Answer.{answer}
 use Rattle.its_plain.specs.Described.{IsFirstState}
 use Rattle.its_plain.specs.History.{after, calls_by, IsLegal}
 use Rattle.its_plain.specs.Runs.{Phase, HasCalls, IsOfPasses, IsPhase}
-use Rattle.its_plain.specs.declared.call.Call.{Call}
 use Rattle.its_plain.specs.declared.call.Entry.{Entry}
 use Rattle.its_plain.specs.declared.desc.Desc.{Desc}
 use Rattle.its_history.specs.Histories.{Seat, seat_from, seat_of, history_lines}
@@ -25,7 +24,7 @@ use Rattle.its_history.specs.declared.trace.EntryLine.{EntryLine}
 use Rattle.its_history.specs.declared.trace.Leg.{Leg as LegLines}
 use Rattle.trace_check.specs.Differences.{pending_texts}
 use Rattle.trace_check.proofs.Lists.{calls_here, calls_else}
-use Rattle.its_fit.specs.Explained.{Line, lines_by, told_by, HadBegun, AgreesWithTimes, entries_from, report_of, Explains}
+use Rattle.its_fit.specs.Explained.{Line, lines_by, told_by, AgreesWithTimes, entries_from, report_of, Explains}
 use Rattle.its_fit.specs.Replays.{call_at, told_at, left_by, played, made_at, IsAnsweredSo, Goes, IsEnd, IsOrder, spans_of}
 use Rattle.its_fit.specs.declared.replay.Made.{Made}
 use Rattle.its_fit.specs.declared.told.Answered.{Answered}

@@ -1,5 +1,5 @@
 -- A description that made a machine makes it again in the same state.
-use Rattle.std.proofs.Common.{◌≡◌, Bool, true, false, List, Option, Result, Ok, Err, sym, ap, subst, ◌∙◌}
+use Rattle.std.proofs.Common.{◌≡◌, Bool, true, false, List, Option, Result, Ok, sym, ap, subst, ◌∙◌}
 use Rattle.gits_regs.specs.declared.values.RegValues.{RegValues}
 use Rattle.its_types.specs.declared.translation.Bases.{Bases}
 use Rattle.its_plain.specs.Described.{IsFirstState, StartsAt, is_restored, values_of, restored_bases, kept_of}

@@ -1,10 +1,9 @@
 -- An order is put together call by call.
-use Rattle.std.proofs.Common.{◌≡◌, ◌≢◌, ℕ, zero, suc, ◌+◌, ◌<◌, ◌≤◌, List, [], ◌∷◌, ◌++◌, length, take, replicate, get_or, Option, Some, None, refl, sym, ap, subst, ◌∙◌, inl, inr, arith}
+use Rattle.std.proofs.Common.{◌≡◌, ℕ, suc, ◌+◌, ◌<◌, ◌≤◌, List, [], ◌∷◌, ◌++◌, length, take, replicate, get_or, Some, refl, sym, ap, subst, ◌∙◌, inl, inr, arith}
 use Rattle.std.proofs.lemmas.Bool.{cases_eq, cases_lt}
 use Rattle.std.proofs.lemmas.List.{get_or_past, get_or_read, get_or-set_same, get_or-set_other, length-replicate, length-set}
-use Rattle.std.specs.List.{AllByRecursion}
 use Rattle.std.specs.Prelude.{slice_set, slice_index}
-use Rattle.its_fit.specs.Explained.{Line, lines_by, told_by, IsMerge, AgreesWithTimes}
+use Rattle.its_fit.specs.Explained.{Line, told_by}
 use Rattle.its_fit.specs.Replays.{told_at, made_at}
 use Rattle.its_fit.specs.Ordered.{AreLinesOf, IsSoFar, IsAll, IsOrdered}
 use Rattle.its_fit.specs.declared.replay.Made.{Made}

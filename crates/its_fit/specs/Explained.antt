@@ -1,5 +1,5 @@
 -- Histories that explain what threads were answered.
-use Rattle.std.specs.Prelude.{◌≡◌, ℕ, suc, ◌+◌, ◌==◌, ◌≤◌, ◌<◌, if◌then◌else◌, List, [], ◌∷◌, map, length, slice_get, slice_index_or, Option, Some}
+use Rattle.std.specs.Prelude.{◌≡◌, ℕ, suc, ◌==◌, ◌≤◌, ◌<◌, if◌then◌else◌, List, [], ◌∷◌, length, slice_index_or, Some}
 use Rattle.std.specs.List.{AllByRecursion}
 use Rattle.its_plain.specs.Plain.{Plain}
 use Rattle.its_plain.specs.Runs.{Phase}

@@ -6,7 +6,6 @@ use Rattle.its_plain.specs.Described.{IsFirstState}
 use Rattle.its_plain.specs.Runs.{Phase}
 use Rattle.its_plain.specs.declared.desc.Desc.{Desc}
 use Rattle.its_history.specs.declared.trace.Leg.{Leg as LegLines}
-use Rattle.its_history.specs.declared.trace.Trace.{Trace}
 use Rattle.its_fit.specs.Explained.{Line, Explains, report_of}
 use Rattle.its_fit.specs.Replays.{Goes, spans_of}
 use Rattle.its_fit.specs.declared.search.Verdict.{Verdict}

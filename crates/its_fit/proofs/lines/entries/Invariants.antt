@@ -1,4 +1,4 @@
-use Rattle.std.proofs.Common.{◌≡◌, List, length}
+use Rattle.std.proofs.Common.{List, length}
 use Rattle.its_fit.specs.Explained.{Line}
 use Rattle.its_fit.specs.Ordered.{AreLinesOf}
 use Rattle.its_fit.proofs.Reports.{Left}

@@ -1,4 +1,4 @@
-use Rattle.std.proofs.Common.{◌≡◌, ◌≢◌, ◌∙◌, length, map, refl, sym, ap, arith}
+use Rattle.std.proofs.Common.{◌≡◌, ◌≢◌, ◌∙◌, length, map, refl, ap, arith}
 use Rattle.its_types.specs.declared.ids.Intid.{Intid}
 use Rattle.its_plain.specs.Plain.{pending_of}
 use Rattle.its_history.specs.Report.{pending_text, vcpu_text}

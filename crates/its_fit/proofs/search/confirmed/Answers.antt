@@ -1,14 +1,7 @@
-use Rattle.std.proofs.Common.{◌≡◌, ◌∙◌, ℕ, List, [], ◌∷◌, length, sym, ap, subst}
-use Rattle.its_history.specs.ReadBack.{HasShape}
-use Rattle.its_history.specs.declared.trace.Leg.{Leg as LegLines}
-use Rattle.its_plain.specs.Plain.{Plain}
-use Rattle.its_plain.specs.Runs.{Leg}
+use Rattle.std.proofs.Common.{◌≡◌, ◌∙◌, List, [], ◌∷◌, length, sym}
 use Rattle.trace_check.specs.Verdicts.{IsReportOfRun}
 use Rattle.its_fit.specs.Explained.{Line, report_of}
 use Rattle.its_fit.specs.Ordered.{AreLinesOf, IsOrdered}
-use Rattle.its_fit.specs.Verdicts.{IsFit}
-use Rattle.its_fit.specs.declared.replay.Made.{Made}
-use Rattle.its_fit.specs.declared.told.Answered.{Answered}
 use Rattle.its_fit.proofs.Confirming.{shape_of, names_by, fit_of}
 use Rattle.its_fit.proofs.search.confirmed.Goals as goal
 

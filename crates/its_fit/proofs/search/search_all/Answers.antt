@@ -1,4 +1,4 @@
-use Rattle.std.proofs.Common.{◌≡◌, ◌∙◌, List, [], sym, ap, subst}
+use Rattle.std.proofs.Common.{◌≡◌, ◌∙◌, List, [], ap, subst}
 use Rattle.front_search.specs.Fits.{Fits}
 use Rattle.front_search.specs.Fronts.{Threads, start}
 use Rattle.front_search.specs.Trails.{IsReached, NoneFits}

@@ -1,4 +1,3 @@
-use Rattle.std.proofs.Common.{◌≡◌}
 use Rattle.its_fit.proofs.Answering.{has_tables}
 use Rattle.its_fit.proofs.recording.Recording.machine_after.Goals as goal
 

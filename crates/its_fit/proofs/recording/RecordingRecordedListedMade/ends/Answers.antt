@@ -1,4 +1,4 @@
-use Rattle.std.proofs.Common.{◌≡◌, ◌∙◌, ℕ, List, sym, ap, subst, Decides}
+use Rattle.std.proofs.Common.{◌≡◌, ℕ, List, subst, Decides}
 use Rattle.trace_check.specs.Differences.{pending_texts}
 use Rattle.its_fit.specs.Replays.{IsAfter}
 use Rattle.its_fit.specs.declared.replay.Made.{Made}

@@ -1,4 +1,4 @@
-use Rattle.std.proofs.Common.{◌≡◌, ◌∙◌, ◌<◌, ◌≤◌, length, Some, sym, ap, arith}
+use Rattle.std.proofs.Common.{◌≡◌, ◌∙◌, ◌<◌, length, Some, sym, ap, arith}
 use Rattle.std.specs.Prelude.{option_map}
 use Rattle.its_fit.specs.Replays.{told_at}
 use Rattle.its_fit.proofs.Orders.{more_at}
