@@ -1,0 +1,372 @@
+/*
+ * How many signals threads make, and how long one takes: through passes of the machine that threads share
+ * (libits_shared.a), and beside it, in the same run, through the machine of one caller (libits_c.a) under a
+ * pthread mutex, a pthread spinlock and a ticket lock. Each thread has a device whose events go to a virtual
+ * processor of its own. They signal alone, or beside one more thread that makes commands of another
+ * collection, or saves. It prints a table.
+ *
+ * usage: rates [MILLISECONDS [ROUNDS]]   of each half of a measurement, 100; of each row, 3
+ *
+ * A measurement has two halves of the same threads: in the first signals are counted and no clock is read;
+ * in the second each is timed, with what the clock itself takes subtracted. Each row is made in every round,
+ * and the round with the middle rate is printed.
+ */
+#define _GNU_SOURCE
+#include "latency.h"
+
+#include "its_wait.h"
+
+#include <inttypes.h>
+#include <pthread.h>
+#include <stdatomic.h>
+#include <stdio.h>
+#include <stdlib.h>
+#include <string.h>
+
+enum {
+    MOST = 8,            /* threads that signal */
+    VCPUS = MOST + 1,    /* and one for the other collection */
+    EVENTS = 16,         /* of a device that signals */
+    OTHERS = 1024,       /* events of the other collection */
+    WIDE = 8,            /* devices of 65,536 events that MAPTI maps, one after another */
+    ROUNDS = 99          /* at most */
+};
+
+static const uint64_t QUEUE = 0x80020000, CONFIG = 0x80030000, TABLES = 0x80040000;
+static const uint64_t ITTS = 0x80100000, OTHER_ITT = 0x80110000, WIDE_ITTS = 0x80200000;
+static const uint64_t VALID = UINT64_C(0x8000000000000000);
+static const uint32_t FIRST = 16, OTHER = 100, FIRST_WIDE = 200;
+
+enum way { PASSES, MUTEX, SPINLOCK, TICKETS, WAYS };
+enum beside { ALONE, INV, MAPTI, INVALL, SAVES, BESIDES };
+enum half { WARM, COUNTED, TIMED, OVER };
+
+static const char *const ways[WAYS] = {"passes", "mutex", "spinlock", "ticket lock"};
+static const char *const besides[BESIDES] = {"alone", "INV", "MAPTI", "INVALL", "saves"};
+
+/* A thread: what it makes, how much of it while that was counted, and how long each took when it was timed. */
+struct caller {
+    _Alignas(128) struct its_pass pass;
+    void (*act)(struct caller *);
+    uint32_t device, made;
+    uint64_t count;
+    double seconds;
+    struct times times;
+};
+
+/* What a row tells of the signals, and of what was made beside them. Times are in nanoseconds. */
+struct row {
+    double rate, median, most99, most999, longest;
+    double beside_rate, beside_median;
+};
+
+/* What threads write: each has a line of the processors' caches for itself. */
+static struct {
+    _Alignas(128) pthread_mutex_t mutex;
+    _Alignas(128) pthread_spinlock_t spinlock;
+    _Alignas(128) _Atomic uint32_t ticket_next;
+    _Alignas(128) _Atomic uint32_t ticket_now;
+    _Alignas(128) struct its_handle its;
+} at;
+
+static enum way way;
+static enum beside beside;
+static _Atomic int half;
+static uint32_t queue_at;
+
+static void done(const char *what, uint32_t code)
+{
+    if (code == ITS_DONE)
+        return;
+    fprintf(stderr, "%s answers %" PRIu32 "\n", what, code);
+    exit(1);
+}
+
+static void lock(void)
+{
+    if (way == MUTEX) {
+        pthread_mutex_lock(&at.mutex);
+    } else if (way == SPINLOCK) {
+        pthread_spin_lock(&at.spinlock);
+    } else {
+        uint32_t mine = atomic_fetch_add_explicit(&at.ticket_next, 1, memory_order_relaxed);
+        while (atomic_load_explicit(&at.ticket_now, memory_order_acquire) != mine)
+            its_pause();
+    }
+}
+
+static void unlock(void)
+{
+    if (way == MUTEX)
+        pthread_mutex_unlock(&at.mutex);
+    else if (way == SPINLOCK)
+        pthread_spin_unlock(&at.spinlock);
+    else
+        atomic_store_explicit(&at.ticket_now, atomic_load_explicit(&at.ticket_now, memory_order_relaxed) + 1, memory_order_release);
+}
+
+/* Makes a call of a pass until it isn't busy. */
+#define UNTIL_MADE(call)                                                    \
+    do {                                                                    \
+        uint32_t code, round = 0;                                           \
+        do                                                                  \
+            code = (call);                                                  \
+        while (code == ITS_BUSY && its_wait(round++, ITS_YIELDS + 100000)); \
+        done(#call, code);                                                  \
+    } while (0)
+
+/* A device's next signal. */
+static void act_signal(struct caller *caller)
+{
+    uint32_t event = caller->made++ % EVENTS;
+    struct its_signal_out out;
+    uint64_t place;
+
+    if (way == PASSES) {
+        UNTIL_MADE(its_pass_signal(&caller->pass, caller->device, event, &place, &out));
+    } else {
+        lock();
+        done("its_signal", its_signal(&at.its, caller->device, event, &out));
+        unlock();
+    }
+    if (out.cause != ITS_CAUSE_DELIVERED)
+        done("a signal that goes nowhere", 1);
+}
+
+/* A command: its bytes in the queue, GITS_CWRITER and the step. One critical section, where there is a lock. */
+static void command(struct caller *caller, uint64_t first, uint64_t second, uint64_t third)
+{
+    uint64_t words[4] = {first, second, third, 0}, from = QUEUE + queue_at, place;
+    const uint8_t *bytes = (const uint8_t *)words;
+    struct its_step_out step;
+
+    queue_at = (queue_at + 32) % 4096;
+    if (way == PASSES) {
+        UNTIL_MADE(its_pass_write_memory(&caller->pass, from, bytes, sizeof words, &place));
+        UNTIL_MADE(its_pass_write_register(&caller->pass, 0x88, 8, queue_at, &place));
+        UNTIL_MADE(its_pass_step(&caller->pass, &place, &step));
+    } else {
+        lock();
+        done("its_write_memory", its_write_memory(&at.its, from, bytes, sizeof words));
+        done("its_write_register", its_write_register(&at.its, 0x88, 8, queue_at));
+        done("its_step", its_step(&at.its, &step));
+        unlock();
+    }
+    if (step.outcome != ITS_OUTCOME_RAN)
+        done("a step that ran no command", step.outcome + 100);
+}
+
+/* The next command of the other collection, or a save. */
+static void act_beside(struct caller *caller)
+{
+    uint32_t made = caller->made++;
+    struct its_save_fault_out fault;
+    uint64_t place;
+
+    if (beside == INV) {
+        command(caller, (uint64_t)OTHER << 32 | 12, made % OTHERS, 0);
+    } else if (beside == MAPTI) {
+        uint64_t device = FIRST_WIDE + made / 65536 % WIDE, intid = 8192 + made % 1024;
+        command(caller, device << 32 | 10, intid << 32 | made % 65536, MOST);
+    } else if (beside == INVALL) {
+        command(caller, 13, 0, MOST);
+    } else if (way == PASSES) {
+        UNTIL_MADE(its_pass_save(&caller->pass, &place, &fault));
+    } else {
+        lock();
+        done("its_save", its_save(&at.its, &fault));
+        unlock();
+    }
+}
+
+static void set(struct caller *root, uint32_t offset, uint32_t size, uint64_t value)
+{
+    uint64_t place;
+
+    if (way == PASSES)
+        UNTIL_MADE(its_pass_write_register(&root->pass, offset, size, value, &place));
+    else
+        done("its_write_register", its_write_register(&at.its, offset, size, value));
+}
+
+/* The guest's driver. The lock is free. */
+static void drive(struct caller *root)
+{
+    uint64_t i, event;
+
+    queue_at = 0;
+    set(root, 0x100, 8, UINT64_C(0x8107000080000200));
+    set(root, 0x108, 8, UINT64_C(0x8407000080010200));
+    set(root, 0x80, 8, VALID | QUEUE);
+    set(root, 0x0, 4, 1);
+    for (i = 0; i < VCPUS; i++)
+        command(root, 9, 0, VALID | i << 16 | i);
+    for (i = 0; i < MOST; i++) {
+        command(root, (FIRST + i) << 32 | 8, 3, VALID | (ITTS + 256 * i));
+        for (event = 0; event < EVENTS; event++)
+            command(root, (FIRST + i) << 32 | 10, (8192 + EVENTS * i + event) << 32 | event, i);
+    }
+    command(root, (uint64_t)OTHER << 32 | 8, 9, VALID | OTHER_ITT);
+    for (event = 0; event < OTHERS; event++)
+        command(root, (uint64_t)OTHER << 32 | 10, (9216 + event) << 32 | event, MOST);
+    for (i = 0; i < WIDE && beside == MAPTI; i++)
+        command(root, (FIRST_WIDE + i) << 32 | 8, 15, VALID | (WIDE_ITTS + 0x80000 * i));
+}
+
+/* A machine whose LPIs are all enabled, behind the root's pass or behind the handle. */
+static void start(struct caller *root)
+{
+    static const struct its_window_in window = {0x80000000, 0x1000000};
+    static const struct its_fill_in fill = {0x80030000, 57344};
+    static uint8_t bytes[57344];
+    struct its_description_in numbers = {.vcpus = VCPUS, .device_bits = 16, .lpi_bits = 16, .profile = 1, .config = CONFIG};
+    struct its_make_fault_out fault;
+    uint64_t pending[VCPUS], i;
+
+    memset(bytes, 0xa1, sizeof bytes);
+    for (i = 0; i < VCPUS; i++)
+        pending[i] = TABLES + 0x10000 * i;
+    if (way == PASSES)
+        done("its_share", its_share(&root->pass, &numbers, &window, 1, pending, VCPUS, NULL, 0, NULL, 0, &fill, 1, bytes, sizeof bytes, &fault));
+    else
+        done("its_new", its_new(&at.its, &numbers, &window, 1, pending, VCPUS, NULL, 0, NULL, 0, &fill, 1, bytes, sizeof bytes, &fault));
+    drive(root);
+}
+
+static void *thread(void *argument)
+{
+    struct caller *caller = argument;
+    uint64_t from, now;
+
+    while (atomic_load_explicit(&half, memory_order_relaxed) == WARM)
+        caller->act(caller);
+    caller->seconds = -seconds();
+    while (atomic_load_explicit(&half, memory_order_relaxed) == COUNTED) {
+        caller->act(caller);
+        caller->count++;
+    }
+    caller->seconds += seconds();
+    from = ticks();
+    while (atomic_load_explicit(&half, memory_order_relaxed) == TIMED) {
+        caller->act(caller);
+        now = ticks();
+        add_time(&caller->times, now - from);
+        from = now;
+    }
+    return NULL;
+}
+
+static struct row told(const struct caller *callers, uint32_t count)
+{
+    static struct times all;
+    struct row row = {0};
+    uint32_t i;
+
+    memset(&all, 0, sizeof all);
+    for (i = 0; i < count; i++) {
+        row.rate += (double)callers[i].count / callers[i].seconds;
+        add_times(&all, &callers[i].times);
+    }
+    row.median = within(&all, 0.5);
+    row.most99 = within(&all, 0.99);
+    row.most999 = within(&all, 0.999);
+    row.longest = (double)all.longest * tick_ns;
+    if (beside != ALONE) {
+        row.beside_rate = (double)callers[count].count / callers[count].seconds;
+        row.beside_median = within(&callers[count].times, 0.5);
+    }
+    return row;
+}
+
+static void sleep_for(uint32_t milliseconds)
+{
+    struct timespec t = {milliseconds / 1000, (long)(milliseconds % 1000) * 1000000};
+
+    nanosleep(&t, NULL);
+}
+
+/* One row, once: `count` threads that signal, and one more where it isn't alone. */
+static struct row measured(uint32_t count, uint32_t milliseconds)
+{
+    static struct caller callers[MOST + 1], root;
+    uint32_t i, all = count + (beside != ALONE);
+    pthread_t threads[MOST + 1];
+
+    memset(callers, 0, sizeof callers);
+    start(&root);
+    atomic_store(&half, WARM);
+    for (i = 0; i < all; i++) {
+        callers[i].act = i < count ? act_signal : act_beside;
+        callers[i].device = FIRST + i;
+        if (way == PASSES)
+            done("its_split", its_split(&root.pass, &callers[i].pass));
+        if (pthread_create(&threads[i], NULL, thread, &callers[i]) != 0)
+            done("pthread_create", 1);
+    }
+    sleep_for(10);
+    for (i = COUNTED; i <= OVER; i++) {
+        atomic_store(&half, (int)i);
+        sleep_for(i < OVER ? milliseconds : 0);
+    }
+    for (i = 0; i < all; i++)
+        pthread_join(threads[i], NULL);
+    for (i = 0; i < all && way == PASSES; i++)
+        done("its_pass_free", its_pass_free(&callers[i].pass));
+    done("the end", way == PASSES ? its_pass_free(&root.pass) : its_free(&at.its));
+    return told(callers, count);
+}
+
+static int by_rate(const void *a, const void *b)
+{
+    const struct row *x = a, *y = b;
+
+    return (x->rate > y->rate) - (x->rate < y->rate);
+}
+
+/* A time, with three digits and its unit. */
+static const char *shown(double ns, char *text)
+{
+    const char *unit = ns < 999.5 ? "ns" : ns < 999500 ? "\u00b5s" : "ms";
+    double value = ns < 999.5 ? ns : ns < 999500 ? ns / 1e3 : ns / 1e6;
+
+    sprintf(text, "%.*f %s", ns < 999.5 || value >= 99.95 ? 0 : value >= 9.995 ? 1 : 2, value, unit);
+    return text;
+}
+
+static void print_row(uint32_t count, const struct row *row)
+{
+    char texts[5][32];
+
+    printf("| %" PRIu32 " | %s | %s | %.2f | %s | %s | %s | %s |", count, besides[beside], ways[way], row->rate / 1e6,
+           shown(row->median, texts[0]), shown(row->most99, texts[1]), shown(row->most999, texts[2]),
+           shown(row->longest, texts[3]));
+    if (beside == ALONE)
+        printf(" | |\n");
+    else
+        printf(" %.2f | %s |\n", row->beside_rate / 1e3, shown(row->beside_median, texts[4]));
+    fflush(stdout);
+}
+
+int main(int argc, char **argv)
+{
+    uint32_t milliseconds = argc > 1 ? (uint32_t)strtoul(argv[1], NULL, 10) : 100;
+    uint32_t rounds = argc > 2 ? (uint32_t)strtoul(argv[2], NULL, 10) : 3, count, round;
+    struct row rows[ROUNDS];
+
+    if (milliseconds == 0 || rounds == 0 || rounds > ROUNDS)
+        done("milliseconds from 1 on and 1 to 99 rounds: what was asked", 1);
+    pthread_spin_init(&at.spinlock, PTHREAD_PROCESS_PRIVATE);
+    look_at_clock();
+    printf("A read of the clock: %.1f ns, which the times don't have.\n\n", (double)clock_cost * tick_ns);
+    printf("| Threads | Beside | Machine | Million a second | Median | 99%% | 99.9%% | Longest | Thousand beside, a second | Median of these |\n");
+    printf("|---|---|---|---|---|---|---|---|---|---|\n");
+    for (beside = ALONE; beside < BESIDES; beside++)
+        for (count = 1; count <= MOST; count *= 2)
+            for (way = PASSES; way < WAYS; way++) {
+                for (round = 0; round < rounds; round++)
+                    rows[round] = measured(count, milliseconds);
+                qsort(rows, rounds, sizeof rows[0], by_rate);
+                print_row(count, &rows[rounds / 2]);
+            }
+    return 0;
+}
