@@ -5,11 +5,11 @@
  * processor of its own. They signal alone, or beside one more thread that makes commands of another
  * collection, or saves. It prints a table.
  *
- * usage: rates [MILLISECONDS [ROUNDS]]   of each half of a measurement, 100; of each row, 3
+ * usage: rates [MILLISECONDS [ROUNDS]]   of each half of a measurement, 100; of each cell, 3
  *
  * A measurement has two halves of the same threads: in the first signals are counted and no clock is read;
- * in the second each is timed, with what the clock itself takes subtracted. Each row is made in every round,
- * and the round with the middle rate is printed.
+ * in the second each is timed, with what the clock itself takes subtracted. Each cell of the table is measured
+ * in so many rounds, of which that with the middle rate is told.
  */
 #define _GNU_SOURCE
 #include "latency.h"
@@ -41,7 +41,6 @@ enum way { PASSES, MUTEX, SPINLOCK, TICKETS, WAYS };
 enum beside { ALONE, INV, MAPTI, INVALL, SAVES, BESIDES };
 enum half { WARM, COUNTED, TIMED, OVER };
 
-static const char *const ways[WAYS] = {"passes", "mutex", "spinlock", "ticket lock"};
 static const char *const besides[BESIDES] = {"alone", "INV", "MAPTI", "INVALL", "saves"};
 
 /* A thread: what it makes, how much of it while that was counted, and how long each took when it was timed. */
@@ -57,7 +56,7 @@ struct caller {
 /* What a row tells of the signals, and of what was made beside them. Times are in nanoseconds. */
 struct row {
     double rate, median, most99, most999, longest;
-    double beside_rate, beside_median;
+    double beside_rate;
 };
 
 /* What threads write: each has a line of the processors' caches for itself. */
@@ -271,10 +270,8 @@ static struct row told(const struct caller *callers, uint32_t count)
     row.most99 = within(&all, 0.99);
     row.most999 = within(&all, 0.999);
     row.longest = (double)all.longest * tick_ns;
-    if (beside != ALONE) {
+    if (beside != ALONE)
         row.beside_rate = (double)callers[count].count / callers[count].seconds;
-        row.beside_median = within(&callers[count].times, 0.5);
-    }
     return row;
 }
 
@@ -333,40 +330,51 @@ static const char *shown(double ns, char *text)
     return text;
 }
 
-static void print_row(uint32_t count, const struct row *row)
+/* A cell of the table: a rate, times, and the rate of what was made beside. */
+static void print_cell(const struct row *row)
 {
-    char texts[5][32];
+    char texts[4][32];
 
-    printf("| %" PRIu32 " | %s | %s | %.2f | %s | %s | %s | %s |", count, besides[beside], ways[way], row->rate / 1e6,
-           shown(row->median, texts[0]), shown(row->most99, texts[1]), shown(row->most999, texts[2]),
-           shown(row->longest, texts[3]));
-    if (beside == ALONE)
-        printf(" | |\n");
-    else
-        printf(" %.2f | %s |\n", row->beside_rate / 1e3, shown(row->beside_median, texts[4]));
+    printf(" %.2f; %s, %s, %s, %s", row->rate / 1e6, shown(row->median, texts[0]), shown(row->most99, texts[1]),
+           shown(row->most999, texts[2]), shown(row->longest, texts[3]));
+    if (beside != ALONE)
+        printf("; %.*f", row->beside_rate < 99950 ? 1 : 0, row->beside_rate / 1e3);
+    printf(" |");
     fflush(stdout);
+}
+
+static struct row middle_of(uint32_t count, uint32_t milliseconds, uint32_t rounds)
+{
+    struct row rows[ROUNDS];
+    uint32_t round;
+
+    for (round = 0; round < rounds; round++)
+        rows[round] = measured(count, milliseconds);
+    qsort(rows, rounds, sizeof rows[0], by_rate);
+    return rows[rounds / 2];
 }
 
 int main(int argc, char **argv)
 {
     uint32_t milliseconds = argc > 1 ? (uint32_t)strtoul(argv[1], NULL, 10) : 100;
-    uint32_t rounds = argc > 2 ? (uint32_t)strtoul(argv[2], NULL, 10) : 3, count, round;
-    struct row rows[ROUNDS];
+    uint32_t rounds = argc > 2 ? (uint32_t)strtoul(argv[2], NULL, 10) : 3, count;
+    struct row row;
 
     if (milliseconds == 0 || rounds == 0 || rounds > ROUNDS)
         done("milliseconds from 1 on and 1 to 99 rounds: what was asked", 1);
     pthread_spin_init(&at.spinlock, PTHREAD_PROCESS_PRIVATE);
     look_at_clock();
-    printf("A read of the clock: %.1f ns, which the times don't have.\n\n", (double)clock_cost * tick_ns);
-    printf("| Threads | Beside | Machine | Million a second | Median | 99%% | 99.9%% | Longest | Thousand beside, a second | Median of these |\n");
-    printf("|---|---|---|---|---|---|---|---|---|---|\n");
+    printf("Million signals a second; the time of a signal in the middle, of 99%% and of 99.9%% at most, and the longest;\n"
+           "thousand commands or saves a second beside them. A read of the clock takes %.0f ns, which the times don't have.\n\n"
+           "| Beside | Threads | Passes | Mutex | Spinlock | Ticket lock |\n|---|---|---|---|---|---|\n", (double)clock_cost * tick_ns);
     for (beside = ALONE; beside < BESIDES; beside++)
-        for (count = 1; count <= MOST; count *= 2)
+        for (count = 1; count <= MOST; count *= 2) {
+            printf("| %s | %" PRIu32 " |", besides[beside], count);
             for (way = PASSES; way < WAYS; way++) {
-                for (round = 0; round < rounds; round++)
-                    rows[round] = measured(count, milliseconds);
-                qsort(rows, rounds, sizeof rows[0], by_rate);
-                print_row(count, &rows[rounds / 2]);
+                row = middle_of(count, milliseconds, rounds);
+                print_cell(&row);
             }
+            printf("\n");
+        }
     return 0;
 }

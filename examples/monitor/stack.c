@@ -42,14 +42,29 @@ struct probe {
     size_t depth;
 };
 
+/* What lies below the stack pointer of the function that calls others is nobody's. */
+static inline __attribute__((always_inline)) uint8_t *stack_pointer(void)
+{
+    uint8_t *at;
+
+#if defined(__x86_64__)
+    __asm__ volatile("mov %%rsp, %0" : "=r"(at));
+#elif defined(__aarch64__)
+    __asm__ volatile("mov %0, sp" : "=r"(at));
+#else
+#error "the name of the stack pointer"
+#endif
+    return at;
+}
+
 static void *on_paint(void *argument)
 {
     struct probe *probe = argument;
     volatile uint8_t *at = probe->stack;
-    uint8_t *here = __builtin_frame_address(0);
+    uint8_t *here = stack_pointer();
 
     free(malloc(64)); /* so that the heap knows this thread */
-    for (; at < here - 512; at++)
+    for (; at < here; at++)
         *at = PAINT;
     probe->act();
     for (at = probe->stack; *at == PAINT; at++)
@@ -112,7 +127,7 @@ CALL(write_register, its_write_register(&its, 0x88, 8, queue_at))
 CALL(enable, its_write_register(&its, 0, 4, 1))
 CALL(read_lpi_register, its_read_lpi_register(&its, 0, 0x70, 8, &value))
 CALL(turn_on, its_write_lpi_register(&its, 0, 0, 4, 1))
-CALL(invalidate, its_write_lpi_register(&its, 0, 0xb0, 8, 0))
+CALL(invalidate, its_write_lpi_register(&its, 1, 0xb0, 8, 0))
 CALL(stored, its_stored_lpi_registers(&its, 0, &redistributors[0]))
 CALL(read_memory, its_read_memory(&its, RAM, memory, sizeof memory))
 CALL(write_memory, its_write_memory(&its, RAM + 0x100000, memory, 0x20000))
@@ -154,6 +169,8 @@ CALL(pass_read_register, its_pass_read_register(&pass, 0x90, 8, &place, &value))
 CALL(pass_write_register, its_pass_write_register(&pass, 0x88, 8, queue_at, &place))
 CALL(pass_read_lpi_register, its_pass_read_lpi_register(&pass, 0, 0x70, 8, &place, &value))
 CALL(pass_turn_on, its_pass_write_lpi_register(&pass, 0, 0, 4, 1, &place))
+CALL(pass_invalidate, its_pass_write_lpi_register(&pass, 1, 0xb0, 8, 0, &place))
+CALL(pass_enable, its_pass_write_register(&pass, 0, 4, 1, &place))
 CALL(pass_step, its_pass_step(&pass, &place, &stepped))
 CALL(pass_write_memory, its_pass_write_memory(&pass, RAM + 0x140000, bytes, 64, &place))
 CALL(pass_read_memory, its_pass_read_memory(&pass, RAM + 0x140000, bytes, 64, &place))
@@ -176,8 +193,8 @@ static const uint64_t commands[][4] = {
     {5, 0, 0, 0},                                                         /* SYNC */
     {UINT64_C(0x80000000f), 8200, 0, 0},                                  /* DISCARD */
     {UINT64_C(0x800000008), 0, 0, 0},                                     /* MAPD with V = 0 */
-    {9, 0, 1, 0},                                                         /* MAPC with V = 0 */
     {UINT64_C(0x700000001), 2, 0, 0},                                     /* MOVI back */
+    {9, 0, 1, 0},                                                         /* MAPC with V = 0 */
 };
 
 enum { COMMANDS = sizeof commands / sizeof commands[0] };
@@ -235,13 +252,11 @@ static size_t steps(int shared, void (*act)(void), void (*kick)(void))
     return most;
 }
 
-static void machine_of_one_caller(void)
+/* The guest's driver, and each call once; before a restore of the saved machine. */
+static void life_of_one(void)
 {
     uint32_t i;
 
-    describe();
-    size_t whole = depth_of(make);
-    made("its_new");
     for (i = 0; i < 3; i++)
         its_write_register(&its, bases[i][0], 8, bases[i][1]);
     for (i = 0; i < VCPUS; i++) {
@@ -250,8 +265,7 @@ static void machine_of_one_caller(void)
     }
     its_write_memory(&its, CONFIG, memory, 57344);
     its_write_lpi_register(&its, 1, 0, 4, 1);
-    tell("its_write_lpi_register", turn_on);
-    (void)invalidate();
+    tell_beside("its_write_lpi_register", turn_on, depth_of(invalidate));
     tell("its_read_lpi_register", read_lpi_register);
     tell("its_stored_lpi_registers", stored);
     tell_beside("its_write_register", enable, depth_of(write_register));
@@ -265,29 +279,35 @@ static void machine_of_one_caller(void)
     tell("its_show", show);
     tell("its_best", best);
     tell("its_claim", claim);
+    send();
     tell("its_take", take);
     tell_beside("its_dma", dma_message, depth_of(dma_memory));
+}
+
+static void machine_of_one_caller(void)
+{
+    describe();
+    size_t whole = depth_of(make);
+    made("its_new");
+    life_of_one();
     tell("its_write_memory", write_memory);
+    tell("its_read_memory", read_memory);
     tell("its_next_page", next_page);
     tell("its_forget", forget);
     tell("its_save", save);
     tell("its_written", saved);
     tell("its_migrate", migrate);
-    tell("its_read_memory", read_memory);
     describe_restored();
     tell_beside("its_new", restore, whole);
     tell("its_free", unmake);
     tell("its_text", text);
 }
 
-static void machine_that_threads_share(void)
+/* The same of a pass. */
+static void life_of_a_pass(void)
 {
     uint32_t i;
 
-    describe();
-    size_t whole = depth_of(share);
-    made("its_share");
-    tell("its_split", split);
     for (i = 0; i < 3; i++)
         its_pass_write_register(&pass, bases[i][0], 8, bases[i][1], &place);
     for (i = 0; i < VCPUS; i++) {
@@ -297,10 +317,9 @@ static void machine_that_threads_share(void)
     for (i = 0; i < 64; i++)
         its_pass_write_memory(&pass, CONFIG + 64 * i, memory, 64, &place);
     its_pass_write_lpi_register(&pass, 1, 0, 4, 1, &place);
-    tell("its_pass_write_lpi_register", pass_turn_on);
+    tell_beside("its_pass_write_lpi_register", pass_turn_on, depth_of(pass_invalidate));
     tell("its_pass_read_lpi_register", pass_read_lpi_register);
-    its_pass_write_register(&pass, 0, 4, 1, &place);
-    tell("its_pass_write_register", pass_write_register);
+    tell_beside("its_pass_write_register", pass_enable, depth_of(pass_write_register));
     tell("its_pass_read_register", pass_read_register);
     printf("%-28s %6zu\n", "its_pass_step", steps(1, pass_step, pass_write_register));
     size_t miss = depth_of(pass_send);
@@ -308,8 +327,18 @@ static void machine_that_threads_share(void)
     tell("its_pass_show", pass_show);
     tell("its_pass_best", pass_best);
     tell("its_pass_claim", pass_claim);
+    pass_send();
     tell("its_pass_take", pass_take);
     tell_beside("its_pass_dma", pass_dma_message, depth_of(pass_dma_memory));
+}
+
+static void machine_that_threads_share(void)
+{
+    describe();
+    size_t whole = depth_of(share);
+    made("its_share");
+    tell("its_split", split);
+    life_of_a_pass();
     tell("its_pass_write_memory", pass_write_memory);
     tell("its_pass_read_memory", pass_read_memory);
     tell("its_pass_save", pass_save);
