@@ -9,10 +9,10 @@
  *
  * A measurement has two halves of the same threads: in the first signals are counted and no clock is read;
  * in the second each is timed, with what the clock itself takes subtracted. Each cell of the table is measured
- * in so many rounds, of which that with the middle rate is told.
+ * in so many rounds, of which that with the middle rate is told. The threads go round the processors.
  */
 #define _GNU_SOURCE
-#include "latency.h"
+#include "measuring.h"
 
 #include "its_wait.h"
 
@@ -297,7 +297,7 @@ static struct row measured(uint32_t count, uint32_t milliseconds)
         callers[i].device = FIRST + i;
         if (way == PASSES)
             done("its_split", its_split(&root.pass, &callers[i].pass));
-        if (pthread_create(&threads[i], NULL, thread, &callers[i]) != 0)
+        if (start_on(processor_at(i), &threads[i], thread, &callers[i]) != 0)
             done("pthread_create", 1);
     }
     sleep_for(10);

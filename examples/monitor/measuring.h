@@ -1,11 +1,14 @@
 /*
- * Times of calls: a clock, and counts of how many calls took how long.
+ * A clock, counts of how many calls took how long, and a processor for each thread. Who includes it defines
+ * _GNU_SOURCE first.
  *
  * SPDX-License-Identifier: MIT OR Apache-2.0
  */
-#ifndef LATENCY_H
-#define LATENCY_H
+#ifndef MEASURING_H
+#define MEASURING_H
 
+#include <pthread.h>
+#include <sched.h>
 #include <stdint.h>
 #include <time.h>
 
@@ -100,6 +103,37 @@ static double within(const struct times *times, double share)
     }
     shift = bucket < SMALL ? 0 : bucket / PARTS - 1;
     return tick_ns * (double)((uint64_t)(bucket - PARTS * shift) << shift);
+}
+
+/* The processors that this program may use: of these the one at `number`, round and round. */
+static int processor_at(uint32_t number)
+{
+    cpu_set_t usable;
+    int processor = 0;
+
+    if (sched_getaffinity(0, sizeof usable, &usable) != 0)
+        return 0;
+    number %= (uint32_t)CPU_COUNT(&usable);
+    while (!CPU_ISSET(processor, &usable) || number-- != 0)
+        processor++;
+    return processor;
+}
+
+/* Starts a thread on one processor. It answers as pthread_create does. */
+static int start_on(int processor, pthread_t *thread, void *(*body)(void *), void *argument)
+{
+    pthread_attr_t attributes;
+    cpu_set_t one;
+    int status;
+
+    CPU_ZERO(&one);
+    CPU_SET(processor, &one);
+    pthread_attr_init(&attributes);
+    status = pthread_attr_setaffinity_np(&attributes, sizeof one, &one);
+    if (status == 0)
+        status = pthread_create(thread, &attributes, body, argument);
+    pthread_attr_destroy(&attributes);
+    return status;
 }
 
 #endif
