@@ -53,9 +53,9 @@ struct caller {
     struct times times;
 };
 
-/* What a row tells of the signals, and of what was made beside them. Times are in nanoseconds. */
-struct row {
-    double rate, median, most99, most999, longest;
+/* What a cell tells of the signals, and of what was made beside them. Times are in nanoseconds. */
+struct cell {
+    double rate, slowest, median, most99, most999, longest;
     double beside_rate;
 };
 
@@ -110,7 +110,7 @@ static void unlock(void)
         uint32_t code, round = 0;                                           \
         do                                                                  \
             code = (call);                                                  \
-        while (code == ITS_BUSY && its_wait(round++, ITS_YIELDS + 100000)); \
+        while (code == ITS_BUSY && its_wait(round++, 60000 * ITS_ROUNDS));  \
         done(#call, code);                                                  \
     } while (0)
 
@@ -155,7 +155,14 @@ static void command(struct caller *caller, uint64_t first, uint64_t second, uint
         done("a step that ran no command", step.outcome + 100);
 }
 
-/* The next command of the other collection, or a save. */
+static void sleep_for(uint32_t milliseconds)
+{
+    struct timespec t = {milliseconds / 1000, (long)(milliseconds % 1000) * 1000000};
+
+    nanosleep(&t, NULL);
+}
+
+/* The next command of the other collection; or a save, a millisecond after the one before. */
 static void act_beside(struct caller *caller)
 {
     uint32_t made = caller->made++;
@@ -170,8 +177,10 @@ static void act_beside(struct caller *caller)
     } else if (beside == INVALL) {
         command(caller, 13, 0, MOST);
     } else if (way == PASSES) {
+        sleep_for(1);
         UNTIL_MADE(its_pass_save(&caller->pass, &place, &fault));
     } else {
+        sleep_for(1);
         lock();
         done("its_save", its_save(&at.its, &fault));
         unlock();
@@ -255,35 +264,31 @@ static void *thread(void *argument)
     return NULL;
 }
 
-static struct row told(const struct caller *callers, uint32_t count)
+static struct cell told(const struct caller *callers, uint32_t count)
 {
     static struct times all;
-    struct row row = {0};
+    struct cell cell = {0};
     uint32_t i;
 
     memset(&all, 0, sizeof all);
     for (i = 0; i < count; i++) {
-        row.rate += (double)callers[i].count / callers[i].seconds;
+        double rate = (double)callers[i].count / callers[i].seconds;
+
+        cell.rate += rate;
+        cell.slowest = i == 0 || rate < cell.slowest ? rate : cell.slowest;
         add_times(&all, &callers[i].times);
     }
-    row.median = within(&all, 0.5);
-    row.most99 = within(&all, 0.99);
-    row.most999 = within(&all, 0.999);
-    row.longest = (double)all.longest * tick_ns;
+    cell.median = within(&all, 0.5);
+    cell.most99 = within(&all, 0.99);
+    cell.most999 = within(&all, 0.999);
+    cell.longest = (double)all.longest * tick_ns;
     if (beside != ALONE)
-        row.beside_rate = (double)callers[count].count / callers[count].seconds;
-    return row;
+        cell.beside_rate = (double)callers[count].count / callers[count].seconds;
+    return cell;
 }
 
-static void sleep_for(uint32_t milliseconds)
-{
-    struct timespec t = {milliseconds / 1000, (long)(milliseconds % 1000) * 1000000};
-
-    nanosleep(&t, NULL);
-}
-
-/* One row, once: `count` threads that signal, and one more where it isn't alone. */
-static struct row measured(uint32_t count, uint32_t milliseconds)
+/* One cell, once: `count` threads that signal, and one more where it isn't alone. */
+static struct cell measured(uint32_t count, uint32_t milliseconds)
 {
     static struct caller callers[MOST + 1], root;
     uint32_t i, all = count + (beside != ALONE);
@@ -315,64 +320,67 @@ static struct row measured(uint32_t count, uint32_t milliseconds)
 
 static int by_rate(const void *a, const void *b)
 {
-    const struct row *x = a, *y = b;
+    const struct cell *x = a, *y = b;
 
     return (x->rate > y->rate) - (x->rate < y->rate);
 }
 
-/* A time, with three digits and its unit. */
+/* A time, with three digits and its unit. Where no call was made there is none. */
 static const char *shown(double ns, char *text)
 {
     const char *unit = ns < 999.5 ? "ns" : ns < 999500 ? "\u00b5s" : "ms";
     double value = ns < 999.5 ? ns : ns < 999500 ? ns / 1e3 : ns / 1e6;
 
+    if (ns == 0)
+        return "none";
     sprintf(text, "%.*f %s", ns < 999.5 || value >= 99.95 ? 0 : value >= 9.995 ? 1 : 2, value, unit);
     return text;
 }
 
 /* A cell of the table: a rate, times, and the rate of what was made beside. */
-static void print_cell(const struct row *row)
+static void print_cell(const struct cell *cell)
 {
     char texts[4][32];
 
-    printf(" %.2f; %s, %s, %s, %s", row->rate / 1e6, shown(row->median, texts[0]), shown(row->most99, texts[1]),
-           shown(row->most999, texts[2]), shown(row->longest, texts[3]));
+    printf(" %.2f, %.2f; %s, %s, %s, %s", cell->rate / 1e6, cell->slowest / 1e6, shown(cell->median, texts[0]), shown(cell->most99, texts[1]),
+           shown(cell->most999, texts[2]), shown(cell->longest, texts[3]));
     if (beside != ALONE)
-        printf("; %.*f", row->beside_rate < 99950 ? 1 : 0, row->beside_rate / 1e3);
+        printf("; %.*f", cell->beside_rate < 99950 ? 1 : 0, cell->beside_rate / 1e3);
     printf(" |");
     fflush(stdout);
 }
 
-static struct row middle_of(uint32_t count, uint32_t milliseconds, uint32_t rounds)
+static struct cell middle_of(uint32_t count, uint32_t milliseconds, uint32_t rounds)
 {
-    struct row rows[ROUNDS];
+    struct cell cells[ROUNDS];
     uint32_t round;
 
     for (round = 0; round < rounds; round++)
-        rows[round] = measured(count, milliseconds);
-    qsort(rows, rounds, sizeof rows[0], by_rate);
-    return rows[rounds / 2];
+        cells[round] = measured(count, milliseconds);
+    qsort(cells, rounds, sizeof cells[0], by_rate);
+    return cells[rounds / 2];
 }
 
 int main(int argc, char **argv)
 {
     uint32_t milliseconds = argc > 1 ? (uint32_t)strtoul(argv[1], NULL, 10) : 100;
     uint32_t rounds = argc > 2 ? (uint32_t)strtoul(argv[2], NULL, 10) : 3, count;
-    struct row row;
+    struct cell cell;
 
     if (milliseconds == 0 || rounds == 0 || rounds > ROUNDS)
         done("milliseconds from 1 on and 1 to 99 rounds: what was asked", 1);
     pthread_spin_init(&at.spinlock, PTHREAD_PROCESS_PRIVATE);
     look_at_clock();
-    printf("Million signals a second; the time of a signal in the middle, of 99%% and of 99.9%% at most, and the longest;\n"
-           "thousand commands or saves a second beside them. A read of the clock takes %.0f ns, which the times don't have.\n\n"
+    printf("Million signals a second, of all threads and of the slowest; the time of a signal in the middle, of 99%% and of\n"
+           "99.9%% at most, and the longest; thousand commands or saves a second beside them. A read of the clock takes\n"
+           "%.0f ns, which the times don't have.\n\n"
            "| Beside | Threads | Passes | Mutex | Spinlock | Ticket lock |\n|---|---|---|---|---|---|\n", (double)clock_cost * tick_ns);
     for (beside = ALONE; beside < BESIDES; beside++)
         for (count = 1; count <= MOST; count *= 2) {
             printf("| %s | %" PRIu32 " |", besides[beside], count);
             for (way = PASSES; way < WAYS; way++) {
-                row = middle_of(count, milliseconds, rounds);
-                print_cell(&row);
+                cell = middle_of(count, milliseconds, rounds);
+                print_cell(&cell);
             }
             printf("\n");
         }

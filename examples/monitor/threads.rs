@@ -101,10 +101,13 @@ struct Caller {
     busy: u64,
 }
 
+// After so many tries it is waited anew.
+const ROUNDS: u32 = 65;
+
 /// Waits after a try, as its_wait of include/its_wait.h does.
 fn wait(round: u32) {
-    match round {
-        0..=15 => (0..=round).for_each(|_| hint::spin_loop()),
+    match round % ROUNDS {
+        0..=15 => (0..=round % ROUNDS).for_each(|_| hint::spin_loop()),
         16..=63 => thread::yield_now(),
         _ => thread::sleep(Duration::from_millis(1)),
     }
@@ -118,7 +121,7 @@ impl Caller {
     /// Tries a call until it isn't busy: what it answers, at which place.
     fn tried(&mut self, mut call: impl FnMut(&mut Pass, &mut u64) -> u32) -> (u32, u64) {
         let mut place = 0;
-        for round in 0..10_000 {
+        for round in 0..10_000 * ROUNDS {
             match call(&mut self.pass, &mut place) {
                 BUSY => wait(round),
                 code => return (code, place),
