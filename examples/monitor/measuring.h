@@ -10,6 +10,7 @@
 #include <pthread.h>
 #include <sched.h>
 #include <stdint.h>
+#include <stdio.h>
 #include <time.h>
 
 /* Times below SMALL are counted to the tick, and from there on in PARTS steps for each doubling. */
@@ -103,6 +104,25 @@ static double within(const struct times *times, double share)
     }
     shift = bucket < SMALL ? 0 : bucket / PARTS - 1;
     return tick_ns * (double)((uint64_t)(bucket - PARTS * shift) << shift);
+}
+
+/* A time, with three digits and its unit. Where no call was made there is none. */
+static const char *shown(double ns, char *text)
+{
+    const char *unit = ns < 999.5 ? "ns" : ns < 999500 ? "\u00b5s" : "ms";
+    double value = ns < 999.5 ? ns : ns < 999500 ? ns / 1e3 : ns / 1e6;
+
+    if (ns == 0)
+        return "none";
+    sprintf(text, "%.*f %s", ns < 999.5 || value >= 99.95 ? 0 : value >= 9.995 ? 1 : 2, value, unit);
+    return text;
+}
+
+static void sleep_for(uint32_t milliseconds)
+{
+    struct timespec t = {milliseconds / 1000, (long)(milliseconds % 1000) * 1000000};
+
+    nanosleep(&t, NULL);
 }
 
 /* The processors that this program may use: of these the one at `number`, round and round. */

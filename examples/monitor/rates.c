@@ -5,7 +5,8 @@
  * processor of its own. They signal alone, or beside one more thread that makes commands of another
  * collection, or saves. It prints a table.
  *
- * usage: rates [MILLISECONDS [ROUNDS]]   of each half of a measurement, 100; of each cell, 3
+ * usage: rates [MILLISECONDS [ROUNDS [PAUSES]]]   of each half of a measurement, 100; of each cell, 3; of a
+ *                                                processor between two calls of a thread, none
  *
  * A measurement has two halves of the same threads: in the first signals are counted and no clock is read;
  * in the second each is timed, with what the clock itself takes subtracted. Each cell of the table is measured
@@ -71,7 +72,7 @@ static struct {
 static enum way way;
 static enum beside beside;
 static _Atomic int half;
-static uint32_t queue_at;
+static uint32_t queue_at, pauses;
 
 static void done(const char *what, uint32_t code)
 {
@@ -155,13 +156,6 @@ static void command(struct caller *caller, uint64_t first, uint64_t second, uint
         done("a step that ran no command", step.outcome + 100);
 }
 
-static void sleep_for(uint32_t milliseconds)
-{
-    struct timespec t = {milliseconds / 1000, (long)(milliseconds % 1000) * 1000000};
-
-    nanosleep(&t, NULL);
-}
-
 /* The next command of the other collection; or a save, a millisecond after the one before. */
 static void act_beside(struct caller *caller)
 {
@@ -241,25 +235,36 @@ static void start(struct caller *root)
     drive(root);
 }
 
+/* What a thread does between two calls. */
+static void rest(void)
+{
+    uint32_t i;
+
+    for (i = 0; i < pauses; i++)
+        its_pause();
+}
+
 static void *thread(void *argument)
 {
     struct caller *caller = argument;
-    uint64_t from, now;
+    uint64_t from;
 
-    while (atomic_load_explicit(&half, memory_order_relaxed) == WARM)
+    while (atomic_load_explicit(&half, memory_order_relaxed) == WARM) {
         caller->act(caller);
+        rest();
+    }
     caller->seconds = -seconds();
     while (atomic_load_explicit(&half, memory_order_relaxed) == COUNTED) {
         caller->act(caller);
         caller->count++;
+        rest();
     }
     caller->seconds += seconds();
-    from = ticks();
     while (atomic_load_explicit(&half, memory_order_relaxed) == TIMED) {
+        from = ticks();
         caller->act(caller);
-        now = ticks();
-        add_time(&caller->times, now - from);
-        from = now;
+        add_time(&caller->times, ticks() - from);
+        rest();
     }
     return NULL;
 }
@@ -302,6 +307,8 @@ static struct cell measured(uint32_t count, uint32_t milliseconds)
         callers[i].device = FIRST + i;
         if (way == PASSES)
             done("its_split", its_split(&root.pass, &callers[i].pass));
+        while (i < count && callers[i].made < EVENTS)
+            act_signal(&callers[i]); /* so that the cache has its translations */
         if (start_on(processor_at(i), &threads[i], thread, &callers[i]) != 0)
             done("pthread_create", 1);
     }
@@ -325,27 +332,15 @@ static int by_rate(const void *a, const void *b)
     return (x->rate > y->rate) - (x->rate < y->rate);
 }
 
-/* A time, with three digits and its unit. Where no call was made there is none. */
-static const char *shown(double ns, char *text)
-{
-    const char *unit = ns < 999.5 ? "ns" : ns < 999500 ? "\u00b5s" : "ms";
-    double value = ns < 999.5 ? ns : ns < 999500 ? ns / 1e3 : ns / 1e6;
-
-    if (ns == 0)
-        return "none";
-    sprintf(text, "%.*f %s", ns < 999.5 || value >= 99.95 ? 0 : value >= 9.995 ? 1 : 2, value, unit);
-    return text;
-}
-
 /* A cell of the table: a rate, times, and the rate of what was made beside. */
-static void print_cell(const struct cell *cell)
+static void print_cell(struct cell cell)
 {
     char texts[4][32];
 
-    printf(" %.2f, %.2f; %s, %s, %s, %s", cell->rate / 1e6, cell->slowest / 1e6, shown(cell->median, texts[0]), shown(cell->most99, texts[1]),
-           shown(cell->most999, texts[2]), shown(cell->longest, texts[3]));
+    printf(" %.2f, %.2f; %s, %s, %s, %s", cell.rate / 1e6, cell.slowest / 1e6, shown(cell.median, texts[0]), shown(cell.most99, texts[1]),
+           shown(cell.most999, texts[2]), shown(cell.longest, texts[3]));
     if (beside != ALONE)
-        printf("; %.*f", cell->beside_rate < 99950 ? 1 : 0, cell->beside_rate / 1e3);
+        printf("; %.*f", cell.beside_rate < 99950 ? 1 : 0, cell.beside_rate / 1e3);
     printf(" |");
     fflush(stdout);
 }
@@ -361,27 +356,41 @@ static struct cell middle_of(uint32_t count, uint32_t milliseconds, uint32_t rou
     return cells[rounds / 2];
 }
 
+static void print_head(void)
+{
+    uint64_t from = ticks(), i;
+
+    for (i = 0; i < 1000; i++)
+        rest();
+    printf("Million signals a second, of all threads and of the slowest; the time of a signal in the middle, of 99%% and of\n"
+           "99.9%% at most, and the longest; thousand commands or saves a second beside them. %.0f ns between two calls of\n"
+           "a thread. A read of the clock takes %.0f ns, which the times don't have.\n\n"
+           "| Beside | Threads | Passes | Mutex | Spinlock | Ticket lock |\n|---|---|---|---|---|---|\n",
+           (double)(ticks() - from) * tick_ns / 1000, (double)clock_cost * tick_ns);
+}
+
+/* A number of the command line, or another one. */
+static uint32_t number_of(const char *word, uint32_t other)
+{
+    return word != NULL ? (uint32_t)strtoul(word, NULL, 10) : other;
+}
+
 int main(int argc, char **argv)
 {
-    uint32_t milliseconds = argc > 1 ? (uint32_t)strtoul(argv[1], NULL, 10) : 100;
-    uint32_t rounds = argc > 2 ? (uint32_t)strtoul(argv[2], NULL, 10) : 3, count;
-    struct cell cell;
+    uint32_t milliseconds = number_of(argc > 1 ? argv[1] : NULL, 100), rounds = number_of(argc > 2 ? argv[2] : NULL, 3);
+    uint32_t count;
 
+    pauses = number_of(argc > 3 ? argv[3] : NULL, 0);
     if (milliseconds == 0 || rounds == 0 || rounds > ROUNDS)
         done("milliseconds from 1 on and 1 to 99 rounds: what was asked", 1);
     pthread_spin_init(&at.spinlock, PTHREAD_PROCESS_PRIVATE);
     look_at_clock();
-    printf("Million signals a second, of all threads and of the slowest; the time of a signal in the middle, of 99%% and of\n"
-           "99.9%% at most, and the longest; thousand commands or saves a second beside them. A read of the clock takes\n"
-           "%.0f ns, which the times don't have.\n\n"
-           "| Beside | Threads | Passes | Mutex | Spinlock | Ticket lock |\n|---|---|---|---|---|---|\n", (double)clock_cost * tick_ns);
+    print_head();
     for (beside = ALONE; beside < BESIDES; beside++)
         for (count = 1; count <= MOST; count *= 2) {
             printf("| %s | %" PRIu32 " |", besides[beside], count);
-            for (way = PASSES; way < WAYS; way++) {
-                cell = middle_of(count, milliseconds, rounds);
-                print_cell(&cell);
-            }
+            for (way = PASSES; way < WAYS; way++)
+                print_cell(middle_of(count, milliseconds, rounds));
             printf("\n");
         }
     return 0;

@@ -7,7 +7,7 @@
 #
 # ARCHIVE is libits_c.a and SHARED libits_shared.a; without them those in out/ of crates/its_c and crates/its_shared.
 # They are built first: cd crates/its_c && rt lib [--target aarch64-unknown-linux-gnu], and so in crates/its_shared.
-# MILLISECONDS and ROUNDS in the environment are those of rates.c.
+# MILLISECONDS, ROUNDS and PAUSES in the environment are those of rates.c.
 set -u
 
 usage() {
@@ -100,7 +100,7 @@ if [ "$task" = rates ] || [ "$task" = stack ]; then
         exit 1
     fi
     build_shared "$task" "$task.c" heap.c "$shared" "$archive" || exit 1
-    "$work/$task" "${MILLISECONDS:-100}" "${ROUNDS:-3}"
+    "$work/$task" "${MILLISECONDS:-100}" "${ROUNDS:-3}" "${PAUSES:-0}"
     exit
 fi
 
