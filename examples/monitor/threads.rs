@@ -66,7 +66,13 @@ extern "C" {
     fn its_pass_take(pass: *mut Pass, vcpu: u32, place: *mut u64, out: *mut Ack) -> u32;
     fn its_pass_write_register(pass: *mut Pass, offset: u32, size: u32, value: u64, place: *mut u64) -> u32;
     fn its_pass_step(pass: *mut Pass, place: *mut u64, out: *mut Step) -> u32;
-    fn its_pass_write_memory(pass: *mut Pass, address: u64, bytes: *const u8, len: usize, place: *mut u64) -> u32;
+    fn its_pass_write_memory(
+        pass: *mut Pass,
+        address: u64,
+        bytes: *const u8,
+        len: usize,
+        place: *mut u64,
+    ) -> u32;
     fn its_pass_save(pass: *mut Pass, place: *mut u64, fault: *mut SaveFault) -> u32;
 }
 
@@ -152,7 +158,8 @@ impl Caller {
     }
 
     fn write_register(&mut self, offset: u32, size: u32, value: u64) {
-        let place = self.made(|pass, place| unsafe { its_pass_write_register(pass, offset, size, value, place) });
+        let place =
+            self.made(|pass, place| unsafe { its_pass_write_register(pass, offset, size, value, place) });
         self.note(place, format!("write {offset:#x} {size} {value:#x}"), "ok");
     }
 
@@ -291,8 +298,21 @@ fn share() -> Pass {
     let (bytes, mut fault, mut root) = ([0xa1; LPIS], MakeFault::default(), Pass { at: null_mut() });
     let code = unsafe {
         its_share(
-            &mut root, &numbers, &window, 1, TABLES.as_ptr(), TABLES.len(), null(), 0, null(), 0, &fill, 1,
-            bytes.as_ptr(), bytes.len(), &mut fault,
+            &mut root,
+            &numbers,
+            &window,
+            1,
+            TABLES.as_ptr(),
+            TABLES.len(),
+            null(),
+            0,
+            null(),
+            0,
+            &fill,
+            1,
+            bytes.as_ptr(),
+            bytes.len(),
+            &mut fault,
         )
     };
     assert_eq!(code, DONE, "what its_share answers: {fault:?}");
