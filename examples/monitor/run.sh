@@ -2,7 +2,8 @@
 # Builds and runs the monitors over the library, and compares what they print.
 #
 # usage: examples/monitor/run.sh [times]                        x86-64; times also tells how long calls take
-#        examples/monitor/run.sh rates|stack [SHARED [ARCHIVE]]   x86-64: signals of threads, or the stack of each call
+#        examples/monitor/run.sh rates|stack|figures [SHARED [ARCHIVE]]
+#                                                x86-64: signals of threads, the stack of each call, or all of docs/LIBRARY.md
 #        examples/monitor/run.sh arm ARCHIVE [SHARED]             aarch64, under qemu-user
 #
 # ARCHIVE is libits_c.a and SHARED libits_shared.a; without them those in out/ of crates/its_c and crates/its_shared.
@@ -11,7 +12,7 @@
 set -u
 
 usage() {
-    sed -n 's/^# usage: /usage: /p; s/^#        ex/       ex/p' "$0" >&2
+    sed -n 's/^# usage: /usage: /p; s/^#        /       /p' "$0" >&2
     exit 2
 }
 
@@ -21,7 +22,7 @@ shared=$here/../../crates/its_shared/out/libits_shared.a
 archive=$here/../../crates/its_c/out/libits_c.a
 case $task in
     '' | times) [ $# -le 1 ] || usage ;;
-    rates | stack)
+    rates | stack | figures)
         [ $# -le 3 ] || usage
         shared=${2:-$shared} archive=${3:-$archive}
         ;;
@@ -94,15 +95,25 @@ build_shared() {
     "$compiler" -std=c11 -Wall -Wextra -Werror -pedantic -O2 -pthread $static -I../../include "$@" -o "$work/$program"
 }
 
-if [ "$task" = rates ] || [ "$task" = stack ]; then
+# Measures over both archives.
+measure() {
     if [ ! -f "$shared" ]; then
         echo "$shared isn't there: build it by 'rt lib' in crates/its_shared"
-        exit 1
+        return 1
     fi
-    build_shared "$task" "$task.c" heap.c "$shared" "$archive" || exit 1
-    "$work/$task" "${MILLISECONDS:-100}" "${ROUNDS:-3}" "${PAUSES:-0}"
-    exit
-fi
+    build_shared "$1" "$1.c" heap.c "$shared" "$archive" && "$work/$1" "${MILLISECONDS:-100}" "${ROUNDS:-3}" "${2:-${PAUSES:-0}}"
+}
+
+case $task in
+    rates | stack)
+        measure "$task"
+        exit
+        ;;
+    figures)
+        measure rates 0 && echo && measure rates 130 && echo && measure stack
+        exit
+        ;;
+esac
 
 if command -v "$compiler" >/dev/null; then
     if command -v python3 >/dev/null; then
