@@ -60,7 +60,7 @@ static int again(struct caller *caller, uint32_t code, uint32_t *round)
     if (code != ITS_BUSY)
         return 0;
     caller->busy++;
-    if (!its_wait((*round)++, ITS_YIELDS + 10000))
+    if (!its_wait((*round)++, 10000 * ITS_ROUNDS))
         fail("a call that waited for ten seconds", code);
     return 1;
 }
