@@ -4,7 +4,7 @@
 //! they were told, by their places: what `its check` reads.
 //!
 //! Build: rustc -O --edition 2021 -L FOLDER threads.rs, where FOLDER has libits_shared.a
-//! usage: threads [SIGNALS]   how many signals each device makes; 500 without it
+//! usage: threads [SIGNALS]   how many signals each device makes at least; 500 without it
 #[allow(dead_code)]
 #[path = "rust/src/raw.rs"]
 mod raw;
@@ -23,6 +23,8 @@ const RAN: u32 = 1;
 
 const VCPUS: u32 = 4;
 const DEVICES: u32 = 2;
+// The thread that steps comes after those of devices and of processors, and the one that saves after it.
+const STEPPER: u32 = DEVICES + VCPUS;
 const EVENTS: u32 = 16;
 const LPIS: usize = (DEVICES * EVENTS) as usize;
 const QUEUE: u64 = 0x8002_0000;
@@ -233,23 +235,39 @@ impl Caller {
     }
 }
 
-/// A device: every eighth signal comes after a write of data.
-fn signals(caller: &mut Caller, device: u32, count: u32, devices_left: &AtomicUsize) {
-    for i in 0..count {
+/// What the threads tell each other.
+struct Told {
+    devices_left: AtomicUsize,
+    saves_made: AtomicUsize,
+}
+
+impl Told {
+    fn devices_signal(&self) -> bool {
+        self.devices_left.load(SeqCst) != 0
+    }
+}
+
+/// A device: so many signals, and more until the tables were saved beside them. Every eighth comes
+/// after a write of data.
+fn signals(caller: &mut Caller, device: u32, count: u32, told: &Told) {
+    for i in 0.. {
+        if i >= count && (told.saves_made.load(SeqCst) != 0 || caller.calls.len() + 2 > MOST_CALLS) {
+            break;
+        }
         if i % 8 == 0 {
             let data = std::array::from_fn::<u8, 8, _>(|j| i as u8 ^ j as u8);
             caller.write_memory(DATA + 4096 * u64::from(device) + u64::from(i % 512), &data);
         }
         caller.signal(16 + device, i % EVENTS);
     }
-    devices_left.fetch_sub(1, SeqCst);
+    told.devices_left.fetch_sub(1, SeqCst);
 }
 
 /// A virtual processor: until nothing is pending after the last signal.
-fn acknowledges(caller: &mut Caller, vcpu: u32, devices_left: &AtomicUsize) {
+fn acknowledges(caller: &mut Caller, vcpu: u32, told: &Told) {
     let mut last = false;
     while caller.calls.len() < MOST_CALLS {
-        let ended = devices_left.load(SeqCst) == 0;
+        let ended = !told.devices_signal();
         if !caller.take(vcpu) {
             if ended && last {
                 return;
@@ -261,9 +279,9 @@ fn acknowledges(caller: &mut Caller, vcpu: u32, devices_left: &AtomicUsize) {
 }
 
 /// Events move from collection to collection, and configurations are read again.
-fn steps(caller: &mut Caller, mut at: u64, devices_left: &AtomicUsize) {
+fn steps(caller: &mut Caller, mut at: u64, told: &Told) {
     for i in 0.. {
-        if devices_left.load(SeqCst) == 0 || caller.calls.len() + 3 > MOST_CALLS {
+        if !told.devices_signal() || caller.calls.len() + 3 > MOST_CALLS {
             return;
         }
         let (device, event) = (16 + i % u64::from(DEVICES), i / u64::from(DEVICES) % u64::from(EVENTS));
@@ -276,10 +294,14 @@ fn steps(caller: &mut Caller, mut at: u64, devices_left: &AtomicUsize) {
     }
 }
 
-fn saves(caller: &mut Caller, devices_left: &AtomicUsize) {
-    while devices_left.load(SeqCst) != 0 {
+fn saves(caller: &mut Caller, told: &Told) {
+    loop {
         caller.save();
+        told.saves_made.fetch_add(1, SeqCst);
         thread::sleep(Duration::from_millis(2));
+        if !told.devices_signal() {
+            return;
+        }
     }
 }
 
@@ -296,24 +318,10 @@ fn share() -> Pass {
     let window = Window { base: 0x8000_0000, length: 0x20_0000 };
     let fill = Fill { address: CONFIG, length: LPIS as u64 };
     let (bytes, mut fault, mut root) = ([0xa1; LPIS], MakeFault::default(), Pass { at: null_mut() });
+    #[rustfmt::skip]
     let code = unsafe {
-        its_share(
-            &mut root,
-            &numbers,
-            &window,
-            1,
-            TABLES.as_ptr(),
-            TABLES.len(),
-            null(),
-            0,
-            null(),
-            0,
-            &fill,
-            1,
-            bytes.as_ptr(),
-            bytes.len(),
-            &mut fault,
-        )
+        its_share(&mut root, &numbers, &window, 1, TABLES.as_ptr(), TABLES.len(), null(), 0, null(), 0, &fill, 1,
+                  bytes.as_ptr(), bytes.len(), &mut fault)
     };
     assert_eq!(code, DONE, "what its_share answers: {fault:?}");
     root
@@ -327,14 +335,14 @@ fn split(root: &mut Caller) -> Caller {
 
 /// The eight threads, each with its pass, until the devices have signalled and all is acknowledged.
 fn run(callers: &mut [Caller], count: u32, at: u64) {
-    let devices_left = &AtomicUsize::new(DEVICES as usize);
+    let told = &Told { devices_left: AtomicUsize::new(DEVICES as usize), saves_made: AtomicUsize::new(0) };
     thread::scope(|scope| {
         for (i, caller) in (0..).zip(callers) {
             scope.spawn(move || match i {
-                0..DEVICES => signals(caller, i, count, devices_left),
-                DEVICES..=5 => acknowledges(caller, i - DEVICES, devices_left),
-                6 => steps(caller, at, devices_left),
-                _ => saves(caller, devices_left),
+                0..DEVICES => signals(caller, i, count, told),
+                DEVICES..STEPPER => acknowledges(caller, i - DEVICES, told),
+                STEPPER => steps(caller, at, told),
+                _ => saves(caller, told),
             });
         }
     });
@@ -377,7 +385,7 @@ fn main() {
     let mut root = Caller::new(share());
     let at = root.drive();
     let driven = root.calls.len();
-    let mut callers: Vec<Caller> = (0..DEVICES + VCPUS + 2).map(|_| split(&mut root)).collect();
+    let mut callers: Vec<Caller> = (0..STEPPER + 2).map(|_| split(&mut root)).collect();
     run(&mut callers, count, at);
     for vcpu in 0..VCPUS {
         while root.take(vcpu) {}
