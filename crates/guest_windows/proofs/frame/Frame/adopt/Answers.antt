@@ -1,7 +1,7 @@
 use Rattle.std.proofs.Common.{ℕ, ◌/◌, ◌%◌, List, get_or, Option, None, refl, sym, ap, ◌∙◌, inl, inr, arith}
 use Rattle.std.proofs.lemmas.Bool.{cases_eq}
 use Rattle.guest_windows.specs.Pages.{rows, byte_in}
-use Rattle.guest_windows.specs.Drafts.{own_page, own_rows, byte_over}
+use Rattle.guest_windows.specs.Drafts.{own_page, chunk_rows, byte_over}
 use Rattle.guest_windows.proofs.Fitting.{bytes_same}
 use Rattle.guest_windows.proofs.Drafting.{laid_is}
 use Rattle.guest_windows.proofs.DraftChunks.{own_there, own_elsewhere}
@@ -18,7 +18,7 @@ returns c =
     let same = bytes_same (rows f.chunks.items) (rows hold.new.self.chunks.items) hold.ensures.same i in
     elim (cases_eq (i / 65536 / 4096) chunk.at) [
       | inl is ↦
-          let slot : Option (List ℕ) = get_or (own_rows chunk.pages.items) (i / 65536 % 4096) None in
+          let slot : Option (List ℕ) = get_or (chunk_rows chunk) (i / 65536 % 4096) None in
           laid.ensures.here i (omega (arith, lt, hold.ensures.len)) (omega (arith, is))
           ∙ ap (byte_over slot (i % 65536)) same
           ∙ ap (λ (o : Option (List ℕ)). byte_over o (i % 65536) (byte_in (rows f.chunks.items) i)) (sym (own_there chunk k (i / 65536) refl (sym is)))
