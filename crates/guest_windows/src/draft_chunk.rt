@@ -30,7 +30,6 @@ impl DraftChunk {
     ghost use Rattle.std.specs.Prelude.{◌==◌, ◌&&◌, false, is_some, OnOk, length, slice_index};
     ghost use Rattle.std.specs.Prelude.{slice_index_or, slice_set, MatchOption, IfSome};
     ghost use Rattle.std.specs.Option.{option_map};
-    ghost use Rattle.std.specs.Vec.{vec_len};
     ghost use Rattle.guest_windows.specs.Chunks.{page_rows};
     ghost use Rattle.guest_windows.specs.Drafts.{own_page, chunk_rows, byte_over};
 

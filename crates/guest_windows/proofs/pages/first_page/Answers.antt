@@ -1,4 +1,4 @@
-use Rattle.std.proofs.Common.{◌≡◌, ◌<◌, ◌≤◌, ◌∙◌, true, length, subst, arith}
+use Rattle.std.proofs.Common.{◌≡◌, ◌<◌, ◌≤◌, ◌∙◌, true, length, get_or, subst, arith}
 use Rattle.guest_windows.specs.Windows.{has}
 use Rattle.guest_windows.specs.Zeros.{IsZeroIn}
 use Rattle.guest_windows.specs.Fields.{window, IsHeldIn}
