@@ -1,4 +1,4 @@
-use Rattle.std.proofs.Common.{ℕ, List, [], get_or, set, Option, Some, None, sym, ap, ◌∙◌}
+use Rattle.std.proofs.Common.{ℕ, List, [], get_or, set, Option, None, sym, ap, ◌∙◌}
 use Rattle.std.proofs.lemmas.List.{set-get_or}
 use Rattle.guest_windows.specs.Chunks.{page_rows}
 use Rattle.guest_windows.specs.Drafts.{chunk_rows, byte_over}

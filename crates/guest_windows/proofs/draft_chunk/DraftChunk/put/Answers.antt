@@ -1,7 +1,6 @@
 use Rattle.std.proofs.Common.{◌≡◌, ℕ, List, [], get_or, set, Option, Some, None, sym, ap, ◌∙◌}
 use Rattle.std.proofs.lemmas.List.{set-set, get_or-set_same, get_or-map}
 use Rattle.guest_windows.specs.declared.page.Page.{Page}
-use Rattle.guest_windows.specs.Chunks.{page_rows}
 use Rattle.guest_windows.specs.Drafts.{chunk_rows}
 use Rattle.guest_windows.proofs.Numbers.{rows_written, chunk_numbering, has_number, row_laid, slot_there}
 use Rattle.guest_windows.proofs.draft_chunk.DraftChunk.put.Goals as goal
