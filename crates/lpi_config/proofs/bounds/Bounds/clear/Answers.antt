@@ -1,0 +1,10 @@
+use Rattle.std.proofs.Common.{length}
+use Rattle.lpi_config.proofs.LeastPriorities.{none_of_words}
+use Rattle.lpi_config.proofs.bounds.Bounds.clear.Goals as goal
+
+pub invariant_of-self : goal.invariant_of-self
+invariant_of-self c =
+    let i = c.self.inside in
+    let v = c.self.invariant in
+    none_of_words c.fill-2.new.self.items c.fill.new.self.items (length i.groups.items) (length i.words.items) (c.fill-2.ensures.items (λ y e. e))
+    (c.fill.ensures.items (λ y e. e)) v.whole v.blocks v.room v.small
