@@ -1,16 +1,20 @@
 -- The least priorities: of a word by its bytes, of a group by its words, and the first group below a limit.
-use Rattle.std.proofs.Common.{◌≡◌, ◌≢◌, ℕ, ◌+◌, ◌-◌, ◌*◌, ◌/◌, ◌%◌, ◌^◌, ◌<◌, ◌≤◌, Bool, true, false, leb, ltb, List, length, get_or, set, Option, Some, None, refl, sym}
+use Rattle.std.proofs.Common.{◌≡◌, ◌≢◌, ℕ, ◌+◌, ◌-◌, ◌*◌, ◌/◌, ◌%◌, ◌^◌, ◌<◌, ◌≤◌, Bool, true, cond, bit_and, eqb, leb, ltb, List, length, get_or, set, Option, Some, None, sym}
 use Rattle.std.proofs.Common.{ap, ◌∙◌, inl, inr, arith}
 use Rattle.std.specs.Prelude.{replicate}
 use Rattle.std.specs.Int.{w64, trailing_zeros}
-use Rattle.std.proofs.lemmas.Bool.{cases_lt, cases_eq, le-ltb, leb-true, ltb-true, and_parts, both_ways}
+use Rattle.std.proofs.lemmas.Bool.{cases_lt, cases_eq, eq-eqb, ne_eqb, le-ltb, leb-true, ltb-true, cond-true, cond-false, and_parts, both_ways}
+use Rattle.std.proofs.lemmas.Nat.{and_mask}
+use Rattle.std.proofs.lemmas.Nat.Bits.{bit_at_lowest}
 use Rattle.std.proofs.lemmas.List.{length-set, get_or-set_same, get_or-set_other, get_or_past, get_or_default, get_or-replicate, length-replicate}
 use Rattle.its_types.specs.Bits.{bit_of}
+use Rattle.its_types.specs.Bitmap.{word_bit}
 use Rattle.its_types.specs.Ranges.{is_lpi, lpi_count}
 use Rattle.lpi_config.specs.Bounds.{least_in, rank, least_priority, least_of_word, least_of_group, AreOfBytes, AreOfWords, IsOfWords}
+use Rattle.lpi_config.specs.Configurations.{AreEnableBits}
 use Rattle.lpi_config.specs.Searches.{NoneIn, IsFirstIn, FirstIn}
 use Rattle.lpi_config.proofs.LeastIn.{least_same, least_none, least_shift, least_pieces}
-use Rattle.lpi_config.proofs.LowestBits.{bit_found, no_bit}
+use Rattle.lpi_config.proofs.LowestBits.{bit_of-zero, bit_found, no_bit}
 
 -- ---- lists
 
@@ -86,6 +90,26 @@ none_of_bytes words bytes n m ws bs j lt =
     ap (λ (xs : List ℕ). get_or xs j 0) ws ∙ get_or-replicate n j 255 0 (omega (arith, lt, count)) ∙ sym (word_of_zeros m j)
     ∙ ap (λ (xs : List ℕ). least_of_word xs j) (sym bs)
 
+pub none_enabled : (enabled bytes : List ℕ) (n m : ℕ) → enabled ≡ replicate n 0 → bytes ≡ replicate m 0 → AreEnableBits enabled bytes
+none_enabled enabled bytes n m es bs k lt =
+    ap (λ (xs : List ℕ). word_bit xs k) es ∙ ap (λ w. bit_of w (k % 64)) (all_same n (k / 64) 0) ∙ bit_of-zero (k % 64) ∙ sym (bit_of-zero 0)
+    ∙ ap (λ b. bit_of b 0) (sym (all_same m k 0)) ∙ ap (λ (xs : List ℕ). bit_of (get_or xs k 0) 0) (sym bs)
+
+-- one LPI's enable bit
+pub enabled_with :
+    (bytes enabled enabled' : List ℕ) (at byte : ℕ) → AreEnableBits enabled bytes → at < length bytes
+    → ((k : ℕ) → word_bit enabled' k ≡ cond (eqb k at) (eqb (bit_and byte 1) 1) (word_bit enabled k)) → AreEnableBits enabled' (set bytes at byte)
+enabled_with bytes enabled enabled' at byte are there bits k lt =
+    elim (cases_eq k at) [
+      | inl e ↦
+          bits k ∙ cond-true (eqb k at) (eqb (bit_and byte 1) 1) (word_bit enabled k) (eq-eqb k at e)
+          ∙ ap (λ n. eqb n 1) (and_mask byte 1 ∙ sym (bit_at_lowest byte))
+          ∙ ap (λ b. bit_of b 0) (sym (ap (λ j. get_or (set bytes at byte) j 0) e ∙ get_or-set_same bytes at byte 0 there))
+      | inr ne ↦
+          bits k ∙ cond-false (eqb k at) (eqb (bit_and byte 1) 1) (word_bit enabled k) (ne_eqb k at ne)
+          ∙ are k (omega (arith, lt, length-set bytes at byte)) ∙ ap (λ b. bit_of b 0) (sym (get_or-set_other bytes at k byte 0 ne))
+    ]
+
 -- ---- all words anew
 
 pub all_of_words :
@@ -149,14 +173,18 @@ one_of_bytes words bytes at b y are there anew j lt =
           (λ k from below. let other : k ≢ at = λ e. ne (omega (arith, from, below, e)) in ap (λ c. rank c) (sym (get_or-set_other bytes at k b 0 other)))
     ]
 
-pub word_within :
-    (lpi_bits intid : ℕ) (bytes words : List ℕ) → is_lpi lpi_bits intid ≡ true → length bytes ≡ lpi_count lpi_bits → 64 * length words ≡ length bytes
-    → (intid - 8192) / 64 < length words
-word_within lpi_bits intid bytes words is size size' =
+pub byte_within :
+    (lpi_bits intid : ℕ) (bytes : List ℕ) → is_lpi lpi_bits intid ≡ true → length bytes ≡ lpi_count lpi_bits → intid - 8192 < length bytes
+byte_within lpi_bits intid bytes is size =
     let parts = and_parts (leb 8192 intid) (ltb intid (2 ^ lpi_bits)) is in
     let low = leb-true 8192 intid parts.0 in
     let high = ltb-true intid (2 ^ lpi_bits) parts.1 in
-    omega (arith, low, high, size, size')
+    omega (arith, low, high, size)
+
+pub word_within :
+    (lpi_bits intid : ℕ) (bytes words : List ℕ) → is_lpi lpi_bits intid ≡ true → length bytes ≡ lpi_count lpi_bits → 64 * length words ≡ length bytes
+    → (intid - 8192) / 64 < length words
+word_within lpi_bits intid bytes words is size size' = omega (arith, byte_within lpi_bits intid bytes is size, size')
 
 -- ---- the first group below a limit
 

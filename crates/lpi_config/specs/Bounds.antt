@@ -1,5 +1,5 @@
 -- The least priorities of enabled LPIs: of those of a word of 64, and of those of a group of 64 words.
-use Rattle.std.specs.Prelude.{◌≡◌, ℕ, zero, suc, ◌+◌, ◌*◌, ◌<◌, ◌≤◌, ◌%◌, ◌==◌, if◌then◌else◌, min, nat_lt, bit_and, List, length, slice_index}
+use Rattle.std.specs.Prelude.{◌≡◌, ℕ, zero, suc, ◌+◌, ◌*◌, ◌<◌, ◌≤◌, ◌%◌, ◌==◌, if◌then◌else◌, min, bit_and, List, length, slice_index}
 use Rattle.std.specs.Prelude.{slice_index_or}
 use Rattle.its_types.specs.Lpis.{config_byte}
 

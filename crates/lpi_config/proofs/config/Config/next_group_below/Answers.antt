@@ -1,4 +1,4 @@
-use Rattle.std.proofs.Common.{◌≡◌, ℕ, ◌+◌, ◌*◌, length, ltb, ap, ◌∙◌, arith}
+use Rattle.std.proofs.Common.{◌≡◌, ◌+◌, ◌*◌, length, ltb, ap, ◌∙◌, arith}
 use Rattle.its_types.specs.Ranges.{lpi_count}
 use Rattle.lpi_config.specs.Bounds.{least_priority, least_of_group}
 use Rattle.lpi_config.proofs.LeastPriorities.{first_same, group_priority}

@@ -1,4 +1,4 @@
-use Rattle.std.proofs.Common.{ℕ, ◌+◌, ◌*◌, ◌<◌, ltb, ap, subst, sym, ◌∙◌, arith}
+use Rattle.std.proofs.Common.{◌+◌, ◌*◌, ◌<◌, ltb, ap, subst, sym, ◌∙◌, arith}
 use Rattle.its_types.specs.Ranges.{lpi_count}
 use Rattle.lpi_config.specs.Configurations.{Configuration}
 use Rattle.lpi_config.proofs.Sizes.{size_of}
