@@ -1,5 +1,5 @@
 -- The first by priority of the bits looked at, and of all.
-use Rattle.std.proofs.Common.{◌≡◌, ◌≢◌, ℕ, suc, zero, ◌+◌, ◌-◌, ◌*◌, ◌/◌, ◌<◌, ◌≤◌, ◌^◌, Bool, true, false, cond, List, length, get_or, drop, Some, None, bit_and}
+use Rattle.std.proofs.Common.{◌≡◌, ◌≢◌, ℕ, suc, zero, ◌+◌, ◌-◌, ◌*◌, ◌/◌, ◌%◌, ◌<◌, ◌≤◌, ◌^◌, Bool, true, false, cond, List, length, get_or, drop, Some, None, bit_and}
 use Rattle.std.proofs.Common.{refl}
 use Rattle.std.proofs.Common.{sym, ap, subst, ◌∙◌, inl, inr, arith}
 use Rattle.std.specs.Prelude.{◌&&◌, nat_lt, MatchOption, Option}
@@ -92,7 +92,7 @@ priorities_less config x limit lt =
 -- ---- a word
 
 -- bit by bit the word that is left of a word and of its enabled LPIs
-abbrev ReadyWord : List ℕ → List ℕ → ℕ → ℕ → Type 0
+abbrev pub ReadyWord : List ℕ → List ℕ → ℕ → ℕ → Type 0
 ReadyWord words config j ready = (i : ℕ) → i < 64 → is_ready words config (64 * j + i) ≡ bit_of ready i
 
 pub ready_word : (words config : List ℕ) (j enabled : ℕ) → ((i : ℕ) → i < 64 → bit_of enabled i ≡ is_enabled config (8192 + 64 * j + i))
@@ -101,23 +101,23 @@ ready_word words config j enabled bits i lt = ready_bit words config j enabled i
 
 -- what is left of them, of which each comes before a limit
 pub record IsLeft (words config : List ℕ) (limit j ready below : ℕ) : Type 0 where
-  pub ready : ReadyWord words config j ready
-  pub below : (i : ℕ) → i < 64 → bit_of below i ≡ nat_lt (priority_of config (8192 + 64 * j + i)) limit
+  pub bits : ReadyWord words config j ready
+  pub limits : (i : ℕ) → i < 64 → bit_of below i ≡ nat_lt (priority_of config (8192 + 64 * j + i)) limit
 
 second_false : (a b : Bool) → a ≡ true → (a && b) ≡ false → b ≡ false
-second_false a b is both = rw is at both
+second_false true b is both = both
+second_false false b is both = absurd (both_ways false refl is)
 
 none_left : (words config : List ℕ) (limit j ready below from to : ℕ) → to ≤ 64 → IsLeft words config limit j ready below
     → NoneIn (bit_of (bit_and ready below)) from to → NoneBelow words config limit (64 * j + from) (64 * j + to)
 none_left words config limit j ready below from to le bits none y low high r =
-    let i : ℕ = y - 64 * j in
     let split : 64 * j + (y - 64 * j) ≡ y = omega arith in
     let place : 8192 + 64 * j + (y - 64 * j) ≡ 8192 + y = omega arith in
     let within : y - 64 * j < 64 = omega arith in
-    let is : bit_of ready (y - 64 * j) ≡ true = sym (bits.ready (y - 64 * j) within) ∙ ap (is_ready words config) split ∙ r in
+    let is : bit_of ready (y - 64 * j) ≡ true = sym (bits.bits (y - 64 * j) within) ∙ ap (is_ready words config) split ∙ r in
     let both : (bit_of ready (y - 64 * j) && bit_of below (y - 64 * j)) ≡ false = sym (bit_of-and ready below (y - 64 * j))
     ∙ none (y - 64 * j) (omega arith) (omega arith) in
-    let not_below : nat_lt (priority_of config (8192 + 64 * j + (y - 64 * j))) limit ≡ false = sym (bits.below (y - 64 * j) within)
+    let not_below : nat_lt (priority_of config (8192 + 64 * j + (y - 64 * j))) limit ≡ false = sym (bits.limits (y - 64 * j) within)
     ∙ second_false (bit_of ready (y - 64 * j)) (bit_of below (y - 64 * j)) is both in
     let same : priority_of config (8192 + 64 * j + (y - 64 * j)) ≡ priority_of config (8192 + y) = ap (priority_of config) place in
     let le' = ltb-false (priority_of config (8192 + 64 * j + (y - 64 * j))) limit not_below in
@@ -128,7 +128,7 @@ pub left_is_below : (words config : List ℕ) (limit j ready below bit : ℕ) �
 left_is_below words config limit j ready below bit lt bits is =
     let place : 8192 + 64 * j + bit ≡ 8192 + (64 * j + bit) = omega arith in
     ltb-true (priority_of config (8192 + (64 * j + bit))) limit
-    (ap (λ x. nat_lt (priority_of config x) limit) (sym place) ∙ sym (bits.below bit lt) ∙ is)
+    (ap (λ x. nat_lt (priority_of config x) limit) (sym place) ∙ sym (bits.limits bit lt) ∙ is)
 
 -- the lowest bit that is left
 pub best_next : (words config : List ℕ) (mask j ready below from bit : ℕ) (best : Best) → IsLeft words config best.limit j ready below
@@ -139,7 +139,7 @@ best_next words config mask j ready below from bit best bits first is =
     let place : 64 * j + bit + 1 ≡ 64 * j + (bit + 1) = omega arith in
     let met = and_parts (bit_of ready bit) (bit_of below bit) (sym (bit_of-and ready below bit) ∙ first.met) in
     subst (λ (n : ℕ). IsBest words config mask n (record { at = Some (64 * j + bit); limit = priority_of config (8192 + (64 * j + bit)) })) place
-    (best_with words config mask (64 * j + bit) best (bits.ready bit lt ∙ met.0) (left_is_below words config best.limit j ready below bit lt bits met.1)
+    (best_with words config mask (64 * j + bit) best (bits.bits bit lt ∙ met.0) (left_is_below words config best.limit j ready below bit lt bits met.1)
     (best_past words config mask (64 * j + from) (64 * j + bit) best (omega (arith, first.from))
     (none_left words config best.limit j ready below from bit (omega (arith, lt)) bits first.before) is))
 
@@ -178,8 +178,8 @@ none_by_least words config limit a n least y low high r =
 
 -- bit by bit the words that are used, and those that have an enabled LPI before a limit
 pub record IsLeftOfGroup (words config : List ℕ) (limit group used below : ℕ) : Type 0 where
-  pub used : (i : ℕ) → i < 64 → bit_of used i ≡ is_used words (64 * group + i)
-  pub below : (i : ℕ) → i < 64 → bit_of below i ≡ nat_lt (least_priority config (8192 + 64 * (64 * group + i)) 64) limit
+  pub bits : (i : ℕ) → i < 64 → bit_of used i ≡ is_used words (64 * group + i)
+  pub limits : (i : ℕ) → i < 64 → bit_of below i ≡ nat_lt (least_priority config (8192 + 64 * (64 * group + i)) 64) limit
 
 none_in_left : (words config : List ℕ) (limit group used below i : ℕ) → i < 64 → IsLeftOfGroup words config limit group used below
     → bit_of (bit_and used below) i ≡ false → NoneBelow words config limit (64 * (64 * group + i)) (64 * (64 * group + i) + 64)
@@ -187,10 +187,10 @@ none_in_left words config limit group used below i lt bits none =
     elim (cases_Bool (bit_of used i)) [
       | inl is ↦
           none_by_least words config limit (64 * (64 * group + i)) 64
-          (sym (bits.below i lt) ∙ second_false (bit_of used i) (bit_of below i) is (sym (bit_of-and used below i) ∙ none))
+          (sym (bits.limits i lt) ∙ second_false (bit_of used i) (bit_of below i) is (sym (bit_of-and used below i) ∙ none))
       | inr unused ↦
           none_below words config limit (64 * (64 * group + i)) (64 * (64 * group + i) + 64)
-          (none_in_unused words config (64 * group + i) (sym (bits.used i lt) ∙ unused))
+          (none_in_unused words config (64 * group + i) (sym (bits.bits i lt) ∙ unused))
     ]
 
 none_in_lefts : (words config : List ℕ) (limit group used below from to : ℕ) → to ≤ 64 → IsLeftOfGroup words config limit group used below

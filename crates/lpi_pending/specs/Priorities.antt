@@ -22,10 +22,10 @@ abbrev pub NoneBelow : List ℕ → List ℕ → ℕ → ℕ → ℕ → Type 0
 NoneBelow words config limit low high = (y : ℕ) → low ≤ y → y < high → is_ready words config y ≡ true → limit ≤ priority_of config (8192 + y)
 
 -- a group of 64 words, and none before it from one on comes before the limit
-pub record IsNextGroup (words config : List ℕ) (limit from group : ℕ) : Type 0 where
-  pub from : from ≤ group
+pub record IsNextGroup (words config : List ℕ) (limit first group : ℕ) : Type 0 where
+  pub from : first ≤ group
   pub below : 64 * group + 64 ≤ length words
-  pub before : NoneBelow words config limit (4096 * from) (4096 * group)
+  pub before : NoneBelow words config limit (4096 * first) (4096 * group)
 
 -- how many priorities, which are multiples of 4, come before a limit
 abbrev pub priorities_before : ℕ → ℕ

@@ -17,7 +17,7 @@ returns-in_default-clause-best g c mask is =
     let words = c.args.words.now in
     let config = c.args.config.now.bytes in
     let left : IsLeftOfGroup words config c.loop-from.best.limit c.args.group c.args.used c.words_below.result =
-    record { used = c.requires.used; below = c.words_below.ensures } in
+    record { bits = c.requires.used; limits = c.words_below.ensures } in
     group_end words config mask c.args.group c.args.used c.words_below.result c.loop-from.from c.loop-from.best c.loop-from.invariant.within left
     c.in_default.ensures (c.loop-from.invariant.best mask is)
 
@@ -30,7 +30,7 @@ loop-from-preserved g c =
     let words = c.args.words.now in
     let config = c.args.config.now.bytes in
     let left : IsLeftOfGroup words config c.loop-from.best.limit c.args.group c.args.used c.words_below.result =
-    record { used = c.requires.used; below = c.words_below.ensures } in
+    record { bits = c.requires.used; limits = c.words_below.ensures } in
     let first = c.in-Some.ensures in
     record {
       within = let lt = first.below in omega (arith, lt);

@@ -1,8 +1,29 @@
-use Rattle.std.proofs.Common.{◌≡◌, ℕ, List, ◌+◌, ◌*◌, ◌/◌, ◌<◌, ◌≤◌, length, subst, sym, ◌∙◌, arith}
+use Rattle.std.proofs.Common.{◌≡◌, ℕ, List, ◌+◌, ◌*◌, ◌/◌, ◌<◌, ◌≤◌, length, ap, subst, sym, ◌∙◌, arith}
 use Rattle.std.proofs.lemmas.List.{get_or_default}
+use Rattle.its_types.specs.Bits.{bit_of}
 use Rattle.lpi_pending.specs.Priorities.{NoneBelow, IsNextGroup}
+use Rattle.lpi_pending.specs.Summaries.{is_used}
+use Rattle.lpi_pending.proofs.Searching.{summary_word}
 use Rattle.lpi_pending.proofs.Bests.{best_past, best_to_group, cost_with_group, cost_of_all}
 use Rattle.lpi_pending.proofs.bitmap.Bitmap.first_by_priority.Goals as goal
+
+pub next_group-requires-clause-within : goal.next_group-requires-clause-within
+next_group-requires-clause-within g c =
+    subst (λ (ws : List ℕ). 64 * c.loop-group.from ≤ length ws) c.self.view_is (omega (arith, c.loop-group.invariant.within, c.self.invariant.size))
+
+pub best_in_group-best-requires-clause-within : goal.best_in_group-best-requires-clause-within
+best_in_group-best-requires-clause-within g c =
+    subst (λ (ws : List ℕ). 64 * c.in-Some.group + 64 ≤ length ws) (sym c.self.view_is ∙ sym c.deref-words.ensures.value) c.in-Some.ensures.found.below
+
+pub best_in_group-best-requires-clause-used : goal.best_in_group-best-requires-clause-used
+best_in_group-best-requires-clause-used g c k lt =
+    let i = c.self.inside in
+    let below : 64 * c.in-Some.group + 64 ≤ length i.words.items =
+    subst (λ (ws : List ℕ). 64 * c.in-Some.group + 64 ≤ length ws) (sym c.self.view_is) c.in-Some.ensures.found.below in
+    let within : c.in-Some.group < length i.summary.items = omega (arith, below, c.self.invariant.size) in
+    let used = c.index-used.ensures ∙ get_or_default i.summary.items c.in-Some.group c.index-used.result.now 0 within in
+    ap (λ w. bit_of w k) used ∙ summary_word i.summary.items i.words.items c.in-Some.group c.self.invariant k lt
+    ∙ ap (λ (ws : List ℕ). is_used ws (64 * c.in-Some.group + k)) (sym c.deref-words.ensures.value)
 
 pub loop-group-preserved : goal.loop-group-preserved
 loop-group-preserved g c =
