@@ -29,6 +29,16 @@ same_those p q a zero same = refl
 same_those p q a (suc n) same =
     rw (same a (within-first a n), same_those p q (a + 1) n (λ x w. same x (within-next a n x w))) refl
 
+-- a set within a set
+pub those-filter : (q p : ℕ → Bool) (a n : ℕ) → filter q (those p a n) ≡ those (λ x. p x && q x) a n
+those-filter q p a zero = refl
+those-filter q p a (suc n) =
+    elim (p a) as (λ b. filter q (cond b (a ∷ those p (a + 1) n) (those p (a + 1) n)) ≡ cond (b && q a) (a ∷ those (λ x. p x && q x) (a + 1) n)
+    (those (λ x. p x && q x) (a + 1) n)) [
+      | true ↦ rw (those-filter q p (a + 1) n) refl
+      | false ↦ those-filter q p (a + 1) n
+    ]
+
 -- membership
 pub is_pending-those_below : (p : ℕ → Bool) (a n x : ℕ) → x < a → is_pending x (those p a n) ≡ false
 is_pending-those_below p a zero x lt = refl

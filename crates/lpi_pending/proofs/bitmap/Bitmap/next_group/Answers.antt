@@ -1,6 +1,5 @@
-use Rattle.std.proofs.Common.{◌≡◌, ◌+◌, ◌-◌, ◌*◌, ◌/◌, ◌<◌, ◌≤◌, List, ℕ, length, subst, sym, arith}
+use Rattle.std.proofs.Common.{◌≡◌, ◌+◌, ◌-◌, ◌*◌, ◌/◌, List, ℕ, length, subst, sym, arith}
 use Rattle.its_types.specs.Ranges.{lpi_count}
-use Rattle.lpi_pending.specs.Priorities.{NoneBelow}
 use Rattle.lpi_pending.proofs.Searching.{next_group, no_group}
 use Rattle.lpi_pending.proofs.Bests.{none_in_unused_groups, none_up_to, none_to_end, groups_are}
 use Rattle.lpi_pending.proofs.bitmap.Bitmap.next_group.Goals as goal
