@@ -144,8 +144,8 @@ impl Config {
         self.enabled[at]
     }
 
-    /// Which of 64 LPIs have a priority below a limit, enabled or not, the lowest at bit 0: those from
-    /// INTID 8192 + 64 * `at` on.
+    /// Which of 64 LPIs have a priority below a limit, enabled or not, the lowest at bit 0: those
+    /// from INTID 8192 + 64 * `at` on.
     pub fn word_below(&self, at: usize, limit: u8) -> u64
         requires { 64 * at < lpi_count self.now.lpi_bits }
         ensures { (k : ℕ) → k < 64 → bit_of result k
@@ -154,8 +154,8 @@ impl Config {
         priorities_below(bytes_at(&self.bytes, at), limit)
     }
 
-    /// Which words of 64 LPIs have an enabled one with a priority below a limit, the lowest at bit 0:
-    /// of the 64 words from INTID 8192 + 4096 * `group` on.
+    /// Which words of 64 LPIs have an enabled one with a priority below a limit, the lowest at bit
+    /// 0: of the 64 words from INTID 8192 + 4096 * `group` on.
     pub fn words_below(&self, group: usize, limit: u8) -> u64
         requires { 4096 * group < lpi_count self.now.lpi_bits }
         ensures { (k : ℕ) → k < 64 → bit_of result k
@@ -164,8 +164,8 @@ impl Config {
         self.bounds.words_below(group, limit)
     }
 
-    /// The first group from this one on that has an enabled LPI with a priority below a limit. Group
-    /// `g` has the 4096 LPIs from INTID 8192 + 4096 * `g` on.
+    /// The first group from this one on that has an enabled LPI with a priority below a limit.
+    /// Group `g` has the 4096 LPIs from INTID 8192 + 4096 * `g` on.
     pub fn next_group_below(&self, from: usize, limit: u8) -> Option<usize>
         ensures { FirstIn
             (λ g. nat_lt (least_priority self.now.bytes (8192 + 4096 * g) 4096) limit)

@@ -1,5 +1,6 @@
 //! The least of 64 bytes, and which of them are below a limit.
-ghost use Rattle.std.specs.Prelude.{◌≡◌, ◌+◌, ◌*◌, ◌<◌, ◌≤◌, ℕ, nat_lt, bit_and, length, slice_index};
+ghost use Rattle.std.specs.Prelude.{◌≡◌, ◌+◌, ◌*◌, ◌<◌, ◌≤◌, ℕ, nat_lt, bit_and, length};
+ghost use Rattle.std.specs.Prelude.{slice_index};
 ghost use Rattle.its_types.specs.Bits.{bit_of};
 ghost use Rattle.lpi_config.specs.Bounds.{least_in, rank};
 

@@ -39,8 +39,8 @@ impl Best {
     }
 }
 
-// With the LPIs of the 64 words that one word of the summary stands for. A step is a word looked at,
-// that of the summary again for each, or an LPI that comes before those so far.
+// With the LPIs of the 64 words that one word of the summary stands for. A step is a word looked
+// at, that of the summary again for each, or an LPI that comes before those so far.
 pub fn best_in_group<L: Ledger>(
     words: &[u64],
     config: &Config,

@@ -168,9 +168,10 @@ impl Bitmap {
     }
 
     // Of the bits that are 1 and whose LPIs are enabled, the first by priority below a mask. A step
-    // is a word looked at, of the summary with the least priorities of its 64 words, and of the bits
-    // with the bytes of its 64 LPIs; or an LPI that comes before those so far, of which there are no
-    // more than priorities. A word of the summary is looked at again for each word that it leads to.
+    // is a word looked at, of the summary with the least priorities of its 64 words, or of the bits
+    // with the bytes of its 64 LPIs; or it is an LPI that comes before those so far, of which there
+    // are no more than priorities. A word of the summary is looked at again for each word that it
+    // leads to.
     pub fn first_by_priority<L: Ledger>(
         &self,
         config: &Config,

@@ -27,7 +27,7 @@ invariant_of-self c =
     let count = length-set i.bytes.items (c.args.intid.0 - 8192) c.args.byte in
     let enabled : length c.put_bit.new.words ≡ length i.enabled.items = c.put_bit.ensures.length ∙ ap length c.deref_mut.ensures.value in
     let bounds : length c.put.new.self ≡ length i.bounds =
-    ap length c.put.ensures ∙ length-set i.bounds ((c.args.intid.0 - 8192) / 64) c.least_rank.result in
+    ap length c.put.ensures ∙ length-set i.bounds ((c.args.intid.0 - 8192) / 64) _ in
     rw enabled_is (record {
       low = v.low;
       high = v.high;
