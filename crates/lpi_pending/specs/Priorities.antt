@@ -1,5 +1,5 @@
--- The search for the LPI that comes first by priority: what was found among the first n bits.
-use Rattle.std.specs.Prelude.{◌≡◌, ℕ, ◌+◌, ◌≤◌, ◌<◌, true, List, MatchOption}
+-- The search for the LPI that comes first by priority: what was found among the first n bits, and where none is.
+use Rattle.std.specs.Prelude.{◌≡◌, ℕ, ◌+◌, ◌*◌, ◌/◌, ◌≤◌, ◌<◌, true, List, MatchOption, length}
 use Rattle.its_types.specs.Lpis.{priority_of}
 use Rattle.lpi_pending.specs.Summaries.{is_ready}
 use Rattle.lpi_pending.specs.declared.best.Best.{Best}
@@ -16,3 +16,17 @@ pub record IsFound (words config : List ℕ) (mask n priority x : ℕ) : Type 0 
 pub record IsBest (words config : List ℕ) (mask n : ℕ) (best : Best) : Type 0 where
   pub least : (y : ℕ) → y < n → is_ready words config y ≡ true → best.limit ≤ priority_of config (8192 + y)
   pub found : MatchOption best.at (best.limit ≡ mask) (λ x. IsFound words config mask n best.limit x)
+
+-- no ready bit from low on, below high, comes before a limit
+abbrev pub NoneBelow : List ℕ → List ℕ → ℕ → ℕ → ℕ → Type 0
+NoneBelow words config limit low high = (y : ℕ) → low ≤ y → y < high → is_ready words config y ≡ true → limit ≤ priority_of config (8192 + y)
+
+-- a group of 64 words, and none before it from one on comes before the limit
+pub record IsNextGroup (words config : List ℕ) (limit first group : ℕ) : Type 0 where
+  pub from : first ≤ group
+  pub below : 64 * group + 64 ≤ length words
+  pub before : NoneBelow words config limit (4096 * first) (4096 * group)
+
+-- how many priorities, which are multiples of 4, come before a limit
+abbrev pub priorities_before : ℕ → ℕ
+priorities_before limit = (limit + 3) / 4
