@@ -68,6 +68,14 @@ impl Bounds {
         self.groups[at / 64] = least_number(bytes_at(&self.words, at / 64));
     }
 
+    // That of one word of 64 LPIs.
+    pub fn word(&self, at: usize) -> u8
+        requires { at < length self.now }
+        ensures { result ≡ slice_index self.now at }
+    {
+        self.words[at]
+    }
+
     // Which of the 64 words of a group are below a limit, the first at bit 0.
     pub fn words_below(&self, group: usize, limit: u8) -> u64
         requires { 64 * group < length self.now }
@@ -86,13 +94,16 @@ impl Bounds {
     }
 }
 
-// The first number from this one on that is below a limit.
+// The first number from this one on that is below a limit: this one alone, or else 64 at once.
 fn next_below(numbers: &[u8], from: usize, limit: u8) -> Option<usize>
     requires blocks { length numbers.now % 64 ≡ 0 }
     requires small { length numbers.now ≤ 256 }
     ensures { FirstIn (λ k. nat_lt (slice_index numbers.now k) limit) from (length numbers.now)
         result }
 {
+    if from < numbers.len() && numbers[from] < limit {
+        return Some(from);
+    }
     let mut at = from;
     while at < numbers.len() {
         let left = numbers_below(bytes_at(numbers, at / 64), limit) >> (at % 64) as u32;

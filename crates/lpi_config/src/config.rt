@@ -154,6 +154,15 @@ impl Config {
         priorities_below(bytes_at(&self.bytes, at), limit)
     }
 
+    /// The least priority of those of 64 LPIs that are enabled, and 255 where none is: those from
+    /// INTID 8192 + 64 * `at` on.
+    pub fn word_priority(&self, at: usize) -> u8
+        requires { 64 * at < lpi_count self.now.lpi_bits }
+        ensures { result ≡ least_priority self.now.bytes (8192 + 64 * at) 64 }
+    {
+        self.bounds.word(at)
+    }
+
     /// Which words of 64 LPIs have an enabled one with a priority below a limit, the lowest at bit
     /// 0: of the 64 words from INTID 8192 + 4096 * `group` on.
     pub fn words_below(&self, group: usize, limit: u8) -> u64

@@ -14,11 +14,10 @@ use Rattle.lpi_config.specs.Bounds.{rank, least_priority}
 use Rattle.lpi_config.proofs.LeastIn.{least_below}
 use Rattle.lpi_pending.specs.Searches.{NoneIn, IsFirstIn, count_in}
 use Rattle.lpi_pending.specs.Summaries.{is_nonzero, is_used, is_ready, IsSummary}
-use Rattle.lpi_pending.specs.Priorities.{IsBest, IsFound, NoneBelow, IsNextGroup, priorities_before}
+use Rattle.lpi_pending.specs.Priorities.{IsBest, IsFound, NoneBelow, IsNextGroup, is_left, is_left_of_group, priorities_before}
 use Rattle.lpi_pending.specs.PendingSets.{lpi_bit, lpis_of, busy_words, summary_words}
 use Rattle.lpi_pending.specs.declared.best.Best.{Best}
 use Rattle.lpi_pending.proofs.Firsts.{used_words}
-use Rattle.lpi_pending.proofs.Bits.{bit_of-and}
 use Rattle.lpi_pending.proofs.Counts.{count_in-add, count_in-some}
 use Rattle.lpi_pending.proofs.Searching.{ready_bit, none_in_unused, unused_groups, used_so_far, used_with_group}
 use Rattle.lpi_pending.proofs.Sets.{IsWithin, those, within-first, within-next, within-later}
@@ -99,63 +98,51 @@ pub ready_word : (words config : List ℕ) (j enabled : ℕ) → ((i : ℕ) → 
     → ReadyWord words config j (bit_and (get_or words j 0) enabled)
 ready_word words config j enabled bits i lt = ready_bit words config j enabled i lt (bits i lt)
 
--- what is left of them, of which each comes before a limit
-pub record IsLeft (words config : List ℕ) (limit j ready below : ℕ) : Type 0 where
-  pub bits : ReadyWord words config j ready
-  pub limits : (i : ℕ) → i < 64 → bit_of below i ≡ nat_lt (priority_of config (8192 + 64 * j + i)) limit
-
 second_false : (a b : Bool) → a ≡ true → (a && b) ≡ false → b ≡ false
 second_false true b is both = both
 second_false false b is both = absurd (both_ways false refl is)
 
-none_left : (words config : List ℕ) (limit j ready below from to : ℕ) → to ≤ 64 → IsLeft words config limit j ready below
-    → NoneIn (bit_of (bit_and ready below)) from to → NoneBelow words config limit (64 * j + from) (64 * j + to)
-none_left words config limit j ready below from to le bits none y low high r =
+none_left : (words config : List ℕ) (limit j ready from to : ℕ) → to ≤ 64 → ReadyWord words config j ready → NoneIn (is_left config limit j ready) from to
+    → NoneBelow words config limit (64 * j + from) (64 * j + to)
+none_left words config limit j ready from to le bits none y low high r =
     let split : 64 * j + (y - 64 * j) ≡ y = omega arith in
     let place : 8192 + 64 * j + (y - 64 * j) ≡ 8192 + y = omega arith in
     let within : y - 64 * j < 64 = omega arith in
-    let is : bit_of ready (y - 64 * j) ≡ true = sym (bits.bits (y - 64 * j) within) ∙ ap (is_ready words config) split ∙ r in
-    let both : (bit_of ready (y - 64 * j) && bit_of below (y - 64 * j)) ≡ false = sym (bit_of-and ready below (y - 64 * j))
-    ∙ none (y - 64 * j) (omega arith) (omega arith) in
-    let not_below : nat_lt (priority_of config (8192 + 64 * j + (y - 64 * j))) limit ≡ false = sym (bits.limits (y - 64 * j) within)
-    ∙ second_false (bit_of ready (y - 64 * j)) (bit_of below (y - 64 * j)) is both in
+    let is : bit_of ready (y - 64 * j) ≡ true = sym (bits (y - 64 * j) within) ∙ ap (is_ready words config) split ∙ r in
+    let not_below : nat_lt (priority_of config (8192 + 64 * j + (y - 64 * j))) limit ≡ false =
+    second_false (bit_of ready (y - 64 * j)) (nat_lt (priority_of config (8192 + 64 * j + (y - 64 * j))) limit) is
+    (none (y - 64 * j) (omega arith) (omega arith)) in
     let same : priority_of config (8192 + 64 * j + (y - 64 * j)) ≡ priority_of config (8192 + y) = ap (priority_of config) place in
     let le' = ltb-false (priority_of config (8192 + 64 * j + (y - 64 * j))) limit not_below in
     omega (arith, le', same)
 
-pub left_is_below : (words config : List ℕ) (limit j ready below bit : ℕ) → bit < 64 → IsLeft words config limit j ready below → bit_of below bit ≡ true
-    → priority_of config (8192 + (64 * j + bit)) < limit
-left_is_below words config limit j ready below bit lt bits is =
+pub left_lt : (config : List ℕ) (limit j ready bit : ℕ) → is_left config limit j ready bit ≡ true → priority_of config (8192 + (64 * j + bit)) < limit
+left_lt config limit j ready bit met =
     let place : 8192 + 64 * j + bit ≡ 8192 + (64 * j + bit) = omega arith in
     ltb-true (priority_of config (8192 + (64 * j + bit))) limit
-    (ap (λ x. nat_lt (priority_of config x) limit) (sym place) ∙ sym (bits.limits bit lt) ∙ is)
+    (ap (λ x. nat_lt (priority_of config x) limit) (sym place)
+    ∙ (and_parts (bit_of ready bit) (nat_lt (priority_of config (8192 + 64 * j + bit)) limit) met).1)
 
 -- the lowest bit that is left
-pub best_next : (words config : List ℕ) (mask j ready below from bit : ℕ) (best : Best) → IsLeft words config best.limit j ready below
-    → IsFirstIn (bit_of (bit_and ready below)) from 64 bit → IsBest words config mask (64 * j + from) best
+pub best_next : (words config : List ℕ) (mask j ready from bit : ℕ) (best : Best) → ReadyWord words config j ready
+    → IsFirstIn (is_left config best.limit j ready) from 64 bit → IsBest words config mask (64 * j + from) best
     → IsBest words config mask (64 * j + (bit + 1)) (record { at = Some (64 * j + bit); limit = priority_of config (8192 + (64 * j + bit)) })
-best_next words config mask j ready below from bit best bits first is =
+best_next words config mask j ready from bit best bits first is =
     let lt = first.below in
     let place : 64 * j + bit + 1 ≡ 64 * j + (bit + 1) = omega arith in
-    let met = and_parts (bit_of ready bit) (bit_of below bit) (sym (bit_of-and ready below bit) ∙ first.met) in
+    let met = and_parts (bit_of ready bit) (nat_lt (priority_of config (8192 + 64 * j + bit)) best.limit) first.met in
     subst (λ (n : ℕ). IsBest words config mask n (record { at = Some (64 * j + bit); limit = priority_of config (8192 + (64 * j + bit)) })) place
-    (best_with words config mask (64 * j + bit) best (bits.bits bit lt ∙ met.0) (left_is_below words config best.limit j ready below bit lt bits met.1)
+    (best_with words config mask (64 * j + bit) best (bits bit lt ∙ met.0) (left_lt config best.limit j ready bit first.met)
     (best_past words config mask (64 * j + from) (64 * j + bit) best (omega (arith, first.from))
-    (none_left words config best.limit j ready below from bit (omega (arith, lt)) bits first.before) is))
+    (none_left words config best.limit j ready from bit (omega (arith, lt)) bits first.before) is))
 
-pub left_lt : (words config : List ℕ) (limit j ready below from bit : ℕ) → IsLeft words config limit j ready below
-    → IsFirstIn (bit_of (bit_and ready below)) from 64 bit → priority_of config (8192 + (64 * j + bit)) < limit
-left_lt words config limit j ready below from bit bits first =
-    left_is_below words config limit j ready below bit first.below bits
-    (and_parts (bit_of ready bit) (bit_of below bit) (sym (bit_of-and ready below bit) ∙ first.met)).1
-
-pub best_end : (words config : List ℕ) (mask j ready below from : ℕ) (best : Best) → from ≤ 64 → IsLeft words config best.limit j ready below
-    → NoneIn (bit_of (bit_and ready below)) from 64 → IsBest words config mask (64 * j + from) best → IsBest words config mask (64 * (j + 1)) best
-best_end words config mask j ready below from best le bits none is =
+pub best_end : (words config : List ℕ) (mask j ready from : ℕ) (best : Best) → from ≤ 64 → ReadyWord words config j ready
+    → NoneIn (is_left config best.limit j ready) from 64 → IsBest words config mask (64 * j + from) best → IsBest words config mask (64 * (j + 1)) best
+best_end words config mask j ready from best le bits none is =
     let place : 64 * j + 64 ≡ 64 * (j + 1) = omega arith in
     subst (λ (n : ℕ). IsBest words config mask n best) place
     (best_past words config mask (64 * j + from) (64 * j + 64) best (omega (arith, le))
-    (none_left words config best.limit j ready below from 64 (omega arith) bits none) is)
+    (none_left words config best.limit j ready from 64 (omega arith) bits none) is)
 
 count_more : (p : ℕ → Bool) (n m : ℕ) → n ≤ m → count_in p 0 m ≡ count_in p 0 n + count_in p n (m - n)
 count_more p n m le =
@@ -176,53 +163,52 @@ none_by_least words config limit a n least y low high r =
     let le = ltb-false (least_priority config (8192 + a) n) limit least in
     omega (arith, same, bound, le)
 
--- bit by bit the words that are used, and those that have an enabled LPI before a limit
-pub record IsLeftOfGroup (words config : List ℕ) (limit group used below : ℕ) : Type 0 where
-  pub bits : (i : ℕ) → i < 64 → bit_of used i ≡ is_used words (64 * group + i)
-  pub limits : (i : ℕ) → i < 64 → bit_of below i ≡ nat_lt (least_priority config (8192 + 64 * (64 * group + i)) 64) limit
+-- bit by bit the words that are used
+abbrev pub UsedWords : List ℕ → ℕ → ℕ → Type 0
+UsedWords words group used = (i : ℕ) → i < 64 → bit_of used i ≡ is_used words (64 * group + i)
 
-none_in_left : (words config : List ℕ) (limit group used below i : ℕ) → i < 64 → IsLeftOfGroup words config limit group used below
-    → bit_of (bit_and used below) i ≡ false → NoneBelow words config limit (64 * (64 * group + i)) (64 * (64 * group + i) + 64)
-none_in_left words config limit group used below i lt bits none =
+none_in_left : (words config : List ℕ) (limit group used i : ℕ) → i < 64 → UsedWords words group used
+    → is_left_of_group config limit group used i ≡ false → NoneBelow words config limit (64 * (64 * group + i)) (64 * (64 * group + i) + 64)
+none_in_left words config limit group used i lt bits none =
     elim (cases_Bool (bit_of used i)) [
       | inl is ↦
           none_by_least words config limit (64 * (64 * group + i)) 64
-          (sym (bits.limits i lt) ∙ second_false (bit_of used i) (bit_of below i) is (sym (bit_of-and used below i) ∙ none))
+          (second_false (bit_of used i) (nat_lt (least_priority config (8192 + 64 * (64 * group + i)) 64) limit) is none)
       | inr unused ↦
           none_below words config limit (64 * (64 * group + i)) (64 * (64 * group + i) + 64)
-          (none_in_unused words config (64 * group + i) (sym (bits.bits i lt) ∙ unused))
+          (none_in_unused words config (64 * group + i) (sym (bits i lt) ∙ unused))
     ]
 
-none_in_lefts : (words config : List ℕ) (limit group used below from to : ℕ) → to ≤ 64 → IsLeftOfGroup words config limit group used below
-    → NoneIn (bit_of (bit_and used below)) from to → NoneBelow words config limit (64 * (64 * group + from)) (64 * (64 * group + to))
-none_in_lefts words config limit group used below from to le bits none y low high =
-    none_in_left words config limit group used below (y / 64 - 64 * group) (omega arith) bits
+none_in_lefts : (words config : List ℕ) (limit group used from to : ℕ) → to ≤ 64 → UsedWords words group used
+    → NoneIn (is_left_of_group config limit group used) from to → NoneBelow words config limit (64 * (64 * group + from)) (64 * (64 * group + to))
+none_in_lefts words config limit group used from to le bits none y low high =
+    none_in_left words config limit group used (y / 64 - 64 * group) (omega arith) bits
     (none (y / 64 - 64 * group) (omega arith) (omega arith)) y (omega arith) (omega arith)
 
-pub group_next : (words config : List ℕ) (mask group used below from bit : ℕ) (best : Best) → IsLeftOfGroup words config best.limit group used below
-    → IsFirstIn (bit_of (bit_and used below)) from 64 bit → IsBest words config mask (64 * (64 * group + from)) best
+pub group_next : (words config : List ℕ) (mask group used from bit : ℕ) (best : Best) → UsedWords words group used
+    → IsFirstIn (is_left_of_group config best.limit group used) from 64 bit → IsBest words config mask (64 * (64 * group + from)) best
     → IsBest words config mask (64 * (64 * group + bit)) best
-group_next words config mask group used below from bit best bits first is =
+group_next words config mask group used from bit best bits first is =
     best_past words config mask (64 * (64 * group + from)) (64 * (64 * group + bit)) best (omega (arith, first.from))
-    (none_in_lefts words config best.limit group used below from bit (omega (arith, first.below)) bits first.before) is
+    (none_in_lefts words config best.limit group used from bit (omega (arith, first.below)) bits first.before) is
 
-pub group_end : (words config : List ℕ) (mask group used below from : ℕ) (best : Best) → from ≤ 64 → IsLeftOfGroup words config best.limit group used below
-    → NoneIn (bit_of (bit_and used below)) from 64 → IsBest words config mask (64 * (64 * group + from)) best
+pub group_end : (words config : List ℕ) (mask group used from : ℕ) (best : Best) → from ≤ 64 → UsedWords words group used
+    → NoneIn (is_left_of_group config best.limit group used) from 64 → IsBest words config mask (64 * (64 * group + from)) best
     → IsBest words config mask (4096 * (group + 1)) best
-group_end words config mask group used below from best le bits none is =
+group_end words config mask group used from best le bits none is =
     let place : 64 * (64 * group + 64) ≡ 4096 * (group + 1) = omega arith in
     subst (λ (n : ℕ). IsBest words config mask n best) place
     (best_past words config mask (64 * (64 * group + from)) (64 * (64 * group + 64)) best (omega (arith, le))
-    (none_in_lefts words config best.limit group used below from 64 (omega arith) bits none) is)
+    (none_in_lefts words config best.limit group used from 64 (omega arith) bits none) is)
 
 -- one used word more
-pub one_used : (used below from bit : ℕ) → IsFirstIn (bit_of (bit_and used below)) from 64 bit
+pub one_used : (config : List ℕ) (limit group used from bit : ℕ) → IsFirstIn (is_left_of_group config limit group used) from 64 bit
     → count_in (bit_of used) 0 from + 1 ≤ count_in (bit_of used) 0 (bit + 1)
-one_used used below from bit first =
+one_used config limit group used from bit first =
     let le = first.from in
     let more = count_more (bit_of used) from (bit + 1) (omega (arith, le)) in
     let one = count_in-some (bit_of used) from (bit + 1 - from) bit (record { from = le; below = omega (arith, le) })
-    (and_parts (bit_of used bit) (bit_of below bit) (sym (bit_of-and used below bit) ∙ first.met)).0 in
+    (and_parts (bit_of used bit) (nat_lt (least_priority config (8192 + 64 * (64 * group + bit)) 64) limit) first.met).0 in
     omega (arith, more, one)
 
 pub used_within : (used from : ℕ) → from ≤ 64 → count_in (bit_of used) 0 from ≤ count_in (bit_of used) 0 64

@@ -3,8 +3,8 @@ ghost use Rattle.std.specs.Prelude.{◌≡◌, ◌+◌, ◌*◌, ◌≤◌, ◌<
 ghost use Rattle.its_types.specs.Bits.{bit_of};
 ghost use Rattle.its_types.specs.Lpis.{priority_of};
 ghost use Rattle.its_types.specs.Ranges.{lpi_count};
-ghost use Rattle.lpi_pending.specs.Priorities.{IsBest, priorities_before};
-ghost use Rattle.lpi_pending.specs.Searches.{count_in};
+ghost use Rattle.lpi_pending.specs.Priorities.{IsBest, is_left, is_left_of_group, priorities_before};
+ghost use Rattle.lpi_pending.specs.Searches.{FirstIn, count_in};
 ghost use Rattle.lpi_pending.specs.Summaries.{is_used};
 
 use crate::bitmap::bit_from;
@@ -61,8 +61,7 @@ pub fn best_in_group<L: Ledger>(
     let mut best = before;
     let mut from = 0;
     while from < 64 {
-        let left = used & config.words_below(group, best.limit);
-        let Some(bit) = bit_from(left, from) else {
+        let Some(bit) = next_in_group(config, group, used, from, best.limit) else {
             return best;
         };
         steps.add(2);
@@ -70,6 +69,23 @@ pub fn best_in_group<L: Ledger>(
         from = bit + 1;
     }
     best
+}
+
+// Of the used words of a group, the first from this one on that has an enabled LPI which comes
+// before a limit. The first that is used is looked at alone, the others all at once.
+fn next_in_group(config: &Config, group: usize, used: u64, from: u32, limit: u8) -> Option<u32>
+    requires within { 4096 * (group + 1) ≤ lpi_count config.now.lpi_bits }
+    requires small { group < 1024 }
+    requires from { from < 64 }
+    ensures { FirstIn (is_left_of_group config.now.bytes limit group used) from 64 result }
+{
+    let Some(first) = bit_from(used, from) else {
+        return None;
+    };
+    if config.word_priority(64 * group + first as usize) < limit {
+        return Some(first);
+    }
+    bit_from(used & config.words_below(group, limit), first)
 }
 
 // With the LPIs of one word more. A step is an LPI that comes before those so far.
@@ -92,8 +108,7 @@ fn best_in_word<L: Ledger>(
     let mut best = before;
     let mut from = 0;
     while from < 64 {
-        let left = ready & config.word_below(at, best.limit);
-        let Some(bit) = bit_from(left, from) else {
+        let Some(bit) = next_in_word(config, at, ready, from, best.limit) else {
             return best;
         };
         steps.add(1);
@@ -101,4 +116,21 @@ fn best_in_word<L: Ledger>(
         from = bit + 1;
     }
     best
+}
+
+// Of the ready LPIs of a word, the first from this one on that comes before a limit. The first that
+// is ready is looked at alone, the others all at once.
+fn next_in_word(config: &Config, at: usize, ready: u64, from: u32, limit: u8) -> Option<u32>
+    requires within { 64 * (at + 1) ≤ lpi_count config.now.lpi_bits }
+    requires small { at < 65536 }
+    requires from { from < 64 }
+    ensures { FirstIn (is_left config.now.bytes limit at ready) from 64 result }
+{
+    let Some(first) = bit_from(ready, from) else {
+        return None;
+    };
+    if Best::of(config, 64 * at + first as usize).limit < limit {
+        return Some(first);
+    }
+    bit_from(ready & config.word_below(at, limit), first)
 }

@@ -1,6 +1,6 @@
 use Rattle.std.proofs.Common.{◌≡◌, ℕ, ◌+◌, ◌*◌, subst, arith}
 use Rattle.lpi_pending.specs.Priorities.{IsBest}
-use Rattle.lpi_pending.proofs.Bests.{IsLeftOfGroup, group_next, group_end, one_used, used_within}
+use Rattle.lpi_pending.proofs.Bests.{group_next, group_end, one_used, used_within}
 use Rattle.lpi_pending.proofs.best.best_in_group.Goals as goal
 
 pub loop-from-init : goal.loop-from-init
@@ -14,12 +14,8 @@ loop-from-init g c = record {
 
 pub returns-in_default-clause-best : goal.returns-in_default-clause-best
 returns-in_default-clause-best g c mask is =
-    let words = c.args.words.now in
-    let config = c.args.config.now.bytes in
-    let left : IsLeftOfGroup words config c.loop-from.best.limit c.args.group c.args.used c.words_below.result =
-    record { bits = c.requires.used; limits = c.words_below.ensures } in
-    group_end words config mask c.args.group c.args.used c.words_below.result c.loop-from.from c.loop-from.best c.loop-from.invariant.within left
-    c.in_default.ensures (c.loop-from.invariant.best mask is)
+    group_end c.args.words.now c.args.config.now.bytes mask c.args.group c.args.used c.loop-from.from c.loop-from.best c.loop-from.invariant.within
+    c.requires.used c.in_default.ensures (c.loop-from.invariant.best mask is)
 
 pub returns-in_default-clause-cost : goal.returns-in_default-clause-cost
 returns-in_default-clause-cost g c =
@@ -29,8 +25,6 @@ pub loop-from-preserved : goal.loop-from-preserved
 loop-from-preserved g c =
     let words = c.args.words.now in
     let config = c.args.config.now.bytes in
-    let left : IsLeftOfGroup words config c.loop-from.best.limit c.args.group c.args.used c.words_below.result =
-    record { bits = c.requires.used; limits = c.words_below.ensures } in
     let first = c.in-Some.ensures in
     record {
       within = let lt = first.below in omega (arith, lt);
@@ -38,13 +32,13 @@ loop-from-preserved g c =
           let place : 64 * (64 * c.args.group + c.in-Some.bit + 1) ≡ 64 * (64 * c.args.group + (c.in-Some.bit + 1)) = omega arith in
           subst (λ (n : ℕ). IsBest words config mask n c.best_in_word-best.result) place
           (c.best_in_word-best.ensures.best mask
-          (group_next words config mask c.args.group c.args.used c.words_below.result c.loop-from.from c.in-Some.bit c.loop-from.best left first
+          (group_next words config mask c.args.group c.args.used c.loop-from.from c.in-Some.bit c.loop-from.best c.requires.used first
           (c.loop-from.invariant.best mask is)));
       cost = omega (
         arith,
         c.loop-from.invariant.cost,
         c.add.ensures,
         c.best_in_word-best.ensures.cost,
-        one_used c.args.used c.words_below.result c.loop-from.from c.in-Some.bit first,
+        one_used config c.loop-from.best.limit c.args.group c.args.used c.loop-from.from c.in-Some.bit first,
       );
     }

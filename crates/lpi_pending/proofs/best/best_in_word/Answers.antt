@@ -1,5 +1,5 @@
 use Rattle.std.proofs.Common.{◌+◌, ◌*◌, bit_and, get_or, arith}
-use Rattle.lpi_pending.proofs.Bests.{IsLeft, ready_word, best_next, best_end, left_lt, priorities_less}
+use Rattle.lpi_pending.proofs.Bests.{ready_word, best_next, best_end, left_lt, priorities_less}
 use Rattle.lpi_pending.proofs.best.best_in_word.Goals as goal
 
 pub returns-in_default-clause-best : goal.returns-in_default-clause-best
@@ -7,10 +7,8 @@ returns-in_default-clause-best g c mask is =
     let words = c.args.words.now in
     let config = c.args.config.now.bytes in
     let at = c.args.at in
-    let left : IsLeft c.args.words.now c.args.config.now.bytes c.loop-from.best.limit c.args.at
-    (bit_and (get_or c.args.words.now c.args.at 0) c.enabled_word.result) c.word_below.result = record { bits = ready_word words config at c.enabled_word.result c.enabled_word.ensures; limits = c.word_below.ensures } in
-    best_end words config mask at (bit_and (get_or words at 0) c.enabled_word.result) c.word_below.result c.loop-from.from c.loop-from.best
-    c.loop-from.invariant.within left c.in_default.ensures (c.loop-from.invariant.best mask is)
+    best_end words config mask at (bit_and (get_or words at 0) c.enabled_word.result) c.loop-from.from c.loop-from.best c.loop-from.invariant.within
+    (ready_word words config at c.enabled_word.result c.enabled_word.ensures) c.in_default.ensures (c.loop-from.invariant.best mask is)
 
 pub loop-from-preserved : goal.loop-from-preserved
 loop-from-preserved g c =
@@ -18,15 +16,13 @@ loop-from-preserved g c =
     let config = c.args.config.now.bytes in
     let at = c.args.at in
     let bit = c.in-Some.bit in
-    let left : IsLeft c.args.words.now c.args.config.now.bytes c.loop-from.best.limit c.args.at
-    (bit_and (get_or c.args.words.now c.args.at 0) c.enabled_word.result) c.word_below.result = record { bits = ready_word words config at c.enabled_word.result c.enabled_word.ensures; limits = c.word_below.ensures } in
     let first = c.in-Some.ensures in
     let less = priorities_less config (8192 + (64 * at + bit)) c.loop-from.best.limit
-    (left_lt words config c.loop-from.best.limit at (bit_and (get_or words at 0) c.enabled_word.result) c.word_below.result c.loop-from.from bit left first) in
+    (left_lt config c.loop-from.best.limit at (bit_and (get_or words at 0) c.enabled_word.result) bit first.met) in
     record {
       within = let lt = first.below in omega (arith, lt);
       best = λ mask is. rw c.of-best.ensures
-          (best_next words config mask at (bit_and (get_or words at 0) c.enabled_word.result) c.word_below.result c.loop-from.from bit c.loop-from.best left
-          first (c.loop-from.invariant.best mask is));
+          (best_next words config mask at (bit_and (get_or words at 0) c.enabled_word.result) c.loop-from.from bit c.loop-from.best
+          (ready_word words config at c.enabled_word.result c.enabled_word.ensures) first (c.loop-from.invariant.best mask is));
       cost = rw c.of-best.ensures (omega (arith, c.loop-from.invariant.cost, c.add.ensures, less));
     }
