@@ -124,6 +124,7 @@ RunCauses told rose status.Spent text = (input : List ℕ) × (WasRead told inpu
 RunCauses told rose status.TooLong text = IfSome told (λ all. 16777216 < length all) × (text ≡ codes "refused long\n")
 RunCauses told rose status.TraceDiffers text = ⊥
 RunCauses told rose status.BadTrace text = ⊥
+RunCauses told rose status.Undecided text = ⊥
 
 -- ---- what is explained
 

@@ -12,6 +12,6 @@ mod telling;
 
 pub use check::say_check;
 pub use ending::Ending;
-pub use refusals::{machine_refusal, script_refusal};
+pub use refusals::{machine_refusal, script_refusal, trace_refusal};
 pub use status::{Status, refusal};
 pub use telling::{add_moved, end_done, end_refused, end_spent, open_text};
