@@ -2,7 +2,7 @@
 ghost use Rattle.std.specs.Prelude.{◌≡◌, IfOk, codes, false};
 ghost use Rattle.clap.specs.Words.{app_of, rule_of};
 ghost use Rattle.clap.specs.declared.Command.TheViews.{out-Command};
-ghost use Rattle.its_words.specs.Command.{its_app, running_app, gen_app, needed_rule};
+ghost use Rattle.its_words.specs.Command.{fit_app, gen_app, its_app, needed_rule, running_app};
 
 use clap::{Arg, ArgAction, Command};
 use std::alloc::{AllocError, Global};
@@ -11,11 +11,13 @@ use std::alloc::{AllocError, Global};
 pub fn its_command<'a>(alloc: Global) -> Result<Command<'a>, AllocError>
     ensures { IfOk result (λ c. app_of c ≡ its_app) }
 {
+    let fit = fit_command(alloc)?;
     let explain = Command::new(alloc, "explain");
     let draw = Command::new(alloc, "draw");
     let help = Command::new(alloc, "help");
     let version = Command::new(alloc, "version");
     running_command(alloc)?
+        .subcommand(fit)?
         .subcommand(explain)?
         .subcommand(draw)?
         .subcommand(help)?
@@ -46,6 +48,15 @@ fn gen_command<'a>(alloc: Global) -> Result<Command<'a>, AllocError>
     let signals = needed(alloc, "signals");
     let threads = needed(alloc, "threads");
     Command::new(alloc, "gen").arg(signals)?.arg(threads)
+}
+
+// `fit` with a number that may be left out.
+fn fit_command<'a>(alloc: Global) -> Result<Command<'a>, AllocError>
+    ensures app { IfOk result (λ c. app_of c ≡ fit_app) }
+    ensures local { IfOk result (λ c. (out-Command c).has_globals ≡ false) }
+{
+    let calls = Arg::new(alloc, "calls").action(ArgAction::Set);
+    Command::new(alloc, "fit").arg(calls)
 }
 
 // An argument that has to be there.
