@@ -1,0 +1,2 @@
+pub mod ToldText
+pub mod FitSays
