@@ -16,8 +16,8 @@ use Rattle.its_fit.proofs.Lists.{head_is}
 use Rattle.its_fit.specs.Verdicts.{IfFits, IfNowhere, IsFit, IsMisfit}
 use Rattle.its_fit.specs.declared.told.Told.{Told}
 use Rattle.fit_answers.specs.ToldText.{told_from, told_of}
-use Rattle.fit_answers.specs.FitSays.{AllHaveAll, FitCauses, FitSays, HasAll, HasBadLine, HasManyPhases, IsAnswered, IsBadTold, IsFitInput, IsOnePhase, IsUnevenInput}
-use Rattle.fit_answers.specs.FitSays.{OfTold, ToldSays}
+use Rattle.fit_answers.specs.FitSays.{AllHaveAll, FitCauses, FitSays, HasAll, HasBadLine, HasManyPhases, IsAnswered, IsBadTold, IsFitInput}
+use Rattle.fit_answers.specs.FitSays.{IsOnePhase, IsUnevenInput, OfTold, ToldSays}
 
 -- ---- what was said of a phase
 

@@ -1,6 +1,6 @@
 -- What threads were told is read line by line.
-use Rattle.std.proofs.Common.{◌≡◌, ℕ, suc, ◌+◌, ◌-◌, ◌<◌, ◌≤◌, Bool, true, false, List, [], ◌∷◌, ◌++◌, length, Option, Some, None, Result, Ok, Err, refl, sym, ap}
-use Rattle.std.proofs.Common.{subst, ◌∙◌, append_assoc, append-nil, arith}
+use Rattle.std.proofs.Common.{◌≡◌, ℕ, suc, ◌+◌, ◌-◌, ◌<◌, ◌≤◌, Bool, true, false, List, [], ◌∷◌, ◌++◌, length, Option, Some, None, Result, Ok, Err, refl, sym}
+use Rattle.std.proofs.Common.{ap, subst, ◌∙◌, append_assoc, append-nil, arith}
 use Rattle.std.specs.Prelude.{if◌then◌else◌}
 use Rattle.its_history.specs.Reading.{◌>>=◌, ◌then◌, after, cut_at, is_over, is_printed, LinesLeft, lines_left, only, pending_from, said}
 use Rattle.its_history.proofs.ReadLegs.{in_front}
@@ -51,7 +51,8 @@ printed : (thread last : ℕ) (text : List ℕ) (here later : LinesLeft) (b : Bo
 printed thread last text here later true = found thread last here later (call_in thread text)
 printed thread last text here later false = refl
 
-step : (thread last n : ℕ) (ps : List (List ℕ)) → calls_from thread last n ps ≡ after_call thread last (lines_left n ps) (said (call_in thread) (lines_left n ps))
+step : (thread last n : ℕ) (ps : List (List ℕ))
+    → calls_from thread last n ps ≡ after_call thread last (lines_left n ps) (said (call_in thread) (lines_left n ps))
 step thread last n [] = refl
 step thread last n (cut ∷ []) = refl
 step thread last n (text ∷ (next ∷ rest)) = printed thread last text (lines_left n (text ∷ (next ∷ rest))) (lines_left (n + 1) (next ∷ rest)) (is_printed text)
@@ -74,7 +75,8 @@ module _ (before : List Answered) (thread last : ℕ) (here : LinesLeft) where
   calls_on a now is good =
       let more = calls_from thread a.span.end now.number now.parts in
       is_next (Some (a, now)) is
-      ∙ ap (λ (b : Bool). in_front before (let r : Calls = if b then (more then λ q. Ok (a ∷ q.0, q.1)) else Err here.number in r)) good ∙ one_more before a more
+      ∙ ap (λ (b : Bool). in_front before (let r : Calls = if b then (more then λ q. Ok (a ∷ q.0, q.1)) else Err here.number in r)) good
+      ∙ one_more before a more
 
   -- one that isn't in order
   pub calls_stop : (a : Answered) (now : LinesLeft) → said (call_in thread) here ≡ Some (a, now) → is_in_order last a.span ≡ false

@@ -6,18 +6,13 @@ use its_fit::Told;
 use its_history::TraceError;
 use std::alloc::Global;
 
-/// Reads what so many threads were told on a machine of so many virtual processors: for each thread,
-/// of which the first is 1, lines `1.T BEGIN END TEXT`, then for each virtual processor, of which
-/// the first is 0, a line `vcpu V pending TEXT`. BEGIN isn't above END, nor below the END before it
-/// of the same thread; both are below 2^64. A line that isn't so is `BadLine`, with its number, of
-/// which the first is 1, and so is the line after the last where one lacks.
+/// Reads what so many threads were told on a machine of so many virtual processors: for each
+/// thread, of which the first is 1, lines `1.T BEGIN END TEXT`, then for each virtual processor, of
+/// which the first is 0, a line `vcpu V pending TEXT`. BEGIN isn't above END, nor below the END
+/// before it of the same thread; both are below 2^64. A line that isn't so is `BadLine`, with its
+/// number, of which the first is 1, and so is the line after the last where one lacks.
 #[tactic(auto, unfolding(crate::specs::ToldText::told_from))]
-pub fn read_told(
-    alloc: Global,
-    text: &[u8],
-    threads: usize,
-    vcpus: u16,
-) -> Result<Told, TraceError>
+pub fn read_told(alloc: Global, text: &[u8], threads: usize, vcpus: u16) -> Result<Told, TraceError>
     ensures { spec.IsToldAs result (spec.told_of threads vcpus text.now) }
 {
     let mut lines = Lines {

@@ -1,6 +1,6 @@
 //! What is said to a script and what its threads were told.
-ghost use Rattle.std.specs.Prelude.{◌≡◌, ◌≢◌, ◌∷◌, ◌++◌, [], IfOk, IfNone, IfSome, List, Ok, ℕ, codes};
-ghost use Rattle.std.specs.Prelude.{length};
+ghost use Rattle.std.specs.Prelude.{◌≡◌, ◌≢◌, ◌∷◌, ◌++◌, [], IfOk, IfNone, IfSome, List, Ok, ℕ};
+ghost use Rattle.std.specs.Prelude.{codes, length};
 ghost use Rattle.std.specs.String.{string_bytes};
 ghost use Rattle.event_script.specs.Limits.{IsWithinLimits};
 ghost use Rattle.event_script.specs.Script.{check_of};
@@ -55,7 +55,8 @@ fn say_script(
     bound: u64,
 ) -> Result<Ending, AllocError>
     requires { IsWithinLimits script.now }
-    ensures { IfOk result (λ e. (input : List ℕ) → check_of input ≡ Ok (script.now, parts report.now) →
+    ensures { IfOk result (λ e. (input : List ℕ) →
+        check_of input ≡ Ok (script.now, parts report.now) →
         spec.FitSays input bound e.status (string_bytes e.line)) }
 {
     match Machine::new(alloc, &script.desc) {
@@ -74,12 +75,7 @@ fn say_script(
 }
 
 /// The same of a script that describes a machine.
-fn say_legs(
-    alloc: Global,
-    script: &Script,
-    report: &[u8],
-    bound: u64,
-) -> Result<Ending, AllocError>
+fn say_legs(alloc: Global, script: &Script, report: &[u8], bound: u64) -> Result<Ending, AllocError>
     requires { IsDescription script.now.desc }
     ensures { IfOk result (λ e.
         spec.ScriptSays script.now report.now bound e.status (string_bytes e.line)) }

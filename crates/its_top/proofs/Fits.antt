@@ -37,37 +37,50 @@ long bound input rose status.Undecided text calm h lt = too_short input h.0 h.1.
 said_of : (bound : ℕ) (input read text : List ℕ) (s : Status) → WasRead (Some input) read → FitSays read bound s text → FitSays input bound s text
 said_of bound input read text s was h = subst (λ (i : List ℕ). FitSays i bound s text) (sym was.whole) h
 
+-- what was said of what was read
+abbrev Said : ℕ → List ℕ → Status → List ℕ → Type 0
+Said bound input s text = (read : List ℕ) × (WasRead (Some input) read × FitSays read bound s text)
+
+refused_by : (bound : ℕ) (input : List ℕ) (s : Status) (text : List ℕ) (fault : ScriptFault) → check_of input ≡ Err fault → Said bound input s text
+    → Ended s status.ScriptRefused
+refused_by bound input s text fault e h = inl (fault_ends input bound s text fault e (said_of bound input h.0 text s h.1.0 h.1.1))
+
 no_script : (bound : ℕ) (input : List ℕ) (rose : Type 0) (s : Status) (text : List ℕ) → ¬ rose → FitCauses bound (Some input) rose s text
     → length input ≤ 16777216 → (fault : ScriptFault) → check_of input ≡ Err fault → Ended s status.ScriptRefused
-no_script bound input rose status.Ok text calm h le fault e = inl (fault_ends input bound status.Ok text fault e (said_of bound input h.0 text status.Ok h.1.0 h.1.1))
-no_script bound input rose status.ScriptRefused text calm h le fault e = inl (fault_ends input bound status.ScriptRefused text fault e (said_of bound input h.0 text status.ScriptRefused h.1.0 h.1.1))
+no_script bound input rose status.Ok text calm h le fault e = refused_by bound input status.Ok text fault e h
+no_script bound input rose status.ScriptRefused text calm h le fault e = refused_by bound input status.ScriptRefused text fault e h
 no_script bound input rose status.WordsRefused text calm h le fault e = absurd h.1.1.says
 no_script bound input rose status.ReadFault text calm h le fault e = absurd (calm h.0)
 no_script bound input rose status.WriteFault text calm h le fault e = absurd h.1.1.says
 no_script bound input rose status.Memory text calm h le fault e = inr refl
-no_script bound input rose status.MachineRefused text calm h le fault e = inl (fault_ends input bound status.MachineRefused text fault e (said_of bound input h.0 text status.MachineRefused h.1.0 h.1.1))
+no_script bound input rose status.MachineRefused text calm h le fault e = refused_by bound input status.MachineRefused text fault e h
 no_script bound input rose status.MigrationRefused text calm h le fault e = absurd h.1.1.says
 no_script bound input rose status.Spent text calm h le fault e = absurd h.1.1.says
 no_script bound input rose status.TooLong text calm h le fault e = absurd (omega (arith, le, h.0))
-no_script bound input rose status.TraceDiffers text calm h le fault e = inl (fault_ends input bound status.TraceDiffers text fault e (said_of bound input h.0 text status.TraceDiffers h.1.0 h.1.1))
-no_script bound input rose status.BadTrace text calm h le fault e = inl (fault_ends input bound status.BadTrace text fault e (said_of bound input h.0 text status.BadTrace h.1.0 h.1.1))
-no_script bound input rose status.Undecided text calm h le fault e = inl (fault_ends input bound status.Undecided text fault e (said_of bound input h.0 text status.Undecided h.1.0 h.1.1))
+no_script bound input rose status.TraceDiffers text calm h le fault e = refused_by bound input status.TraceDiffers text fault e h
+no_script bound input rose status.BadTrace text calm h le fault e = refused_by bound input status.BadTrace text fault e h
+no_script bound input rose status.Undecided text calm h le fault e = refused_by bound input status.Undecided text fault e h
+
+verdict_by : (bound : ℕ) (input : List ℕ) (s : Status) (text : List ℕ) (script : Script) (calls : Phase) (told : Told) → IsFitInput input script calls told
+    → Said bound input s text → IsVerdict s ⊎ (s ≡ status.Memory)
+verdict_by bound input s text script calls told is h =
+    inl (answered input bound s text (said_of bound input h.0 text s h.1.0 h.1.1) script calls told is)
 
 has_verdict : (bound : ℕ) (input : List ℕ) (rose : Type 0) (s : Status) (text : List ℕ) → ¬ rose → FitCauses bound (Some input) rose s text
     → length input ≤ 16777216 → (script : Script) (calls : Phase) (told : Told) → IsFitInput input script calls told → IsVerdict s ⊎ (s ≡ status.Memory)
-has_verdict bound input rose status.Ok text calm h le script calls told is = inl (answered input bound status.Ok text (said_of bound input h.0 text status.Ok h.1.0 h.1.1) script calls told is)
-has_verdict bound input rose status.ScriptRefused text calm h le script calls told is = inl (answered input bound status.ScriptRefused text (said_of bound input h.0 text status.ScriptRefused h.1.0 h.1.1) script calls told is)
+has_verdict bound input rose status.Ok text calm h le script calls told is = verdict_by bound input status.Ok text script calls told is h
+has_verdict bound input rose status.ScriptRefused text calm h le script calls told is = verdict_by bound input status.ScriptRefused text script calls told is h
 has_verdict bound input rose status.WordsRefused text calm h le script calls told is = absurd h.1.1.says
 has_verdict bound input rose status.ReadFault text calm h le script calls told is = absurd (calm h.0)
 has_verdict bound input rose status.WriteFault text calm h le script calls told is = absurd h.1.1.says
 has_verdict bound input rose status.Memory text calm h le script calls told is = inr refl
-has_verdict bound input rose status.MachineRefused text calm h le script calls told is = inl (answered input bound status.MachineRefused text (said_of bound input h.0 text status.MachineRefused h.1.0 h.1.1) script calls told is)
+has_verdict bound input rose status.MachineRefused text calm h le script calls told is = verdict_by bound input status.MachineRefused text script calls told is h
 has_verdict bound input rose status.MigrationRefused text calm h le script calls told is = absurd h.1.1.says
 has_verdict bound input rose status.Spent text calm h le script calls told is = absurd h.1.1.says
 has_verdict bound input rose status.TooLong text calm h le script calls told is = absurd (omega (arith, le, h.0))
-has_verdict bound input rose status.TraceDiffers text calm h le script calls told is = inl (answered input bound status.TraceDiffers text (said_of bound input h.0 text status.TraceDiffers h.1.0 h.1.1) script calls told is)
-has_verdict bound input rose status.BadTrace text calm h le script calls told is = inl (answered input bound status.BadTrace text (said_of bound input h.0 text status.BadTrace h.1.0 h.1.1) script calls told is)
-has_verdict bound input rose status.Undecided text calm h le script calls told is = inl (answered input bound status.Undecided text (said_of bound input h.0 text status.Undecided h.1.0 h.1.1) script calls told is)
+has_verdict bound input rose status.TraceDiffers text calm h le script calls told is = verdict_by bound input status.TraceDiffers text script calls told is h
+has_verdict bound input rose status.BadTrace text calm h le script calls told is = verdict_by bound input status.BadTrace text script calls told is h
+has_verdict bound input rose status.Undecided text calm h le script calls told is = verdict_by bound input status.Undecided text script calls told is h
 
 pub fit_decided : (bound : ℕ) (input : List ℕ) (rose : Type 0) (s : Status) (text : List ℕ) → ¬ rose → FitCauses bound (Some input) rose s text
     → IsFitDecided input s

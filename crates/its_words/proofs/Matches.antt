@@ -57,7 +57,8 @@ asks_fit None rows n r = cc
 asks_fit (Some (a, b)) rows n r =
     let same : codes "fit" ≡ a = cc in
     let rows_are : rows ≡ b = cc in
-    subst (λ (t : Text). fit_by (first_of (codes "calls") rows) ≡ asked_in (Some (t, b))) same (ap (λ (x : List Row). fit_by (first_of (codes "calls") x)) rows_are)
+    subst (λ (t : Text). fit_by (first_of (codes "calls") rows) ≡ asked_in (Some (t, b))) same
+    (ap (λ (x : List Row). fit_by (first_of (codes "calls") x)) rows_are)
 
 pub reads_fit : (m inner : ArgMatches) (name : Text) → Some name ≡ subcommand_name_of m → Some (rows_of (found_of inner)) ≡ option_map (λ p. p.1)
     (subcommand_rows_of m)

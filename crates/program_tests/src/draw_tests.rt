@@ -77,7 +77,11 @@ fn a_report_is_drawn(rt: HostRuntime) -> Result<(), Fail> {
         ("done", "over", Status::BadTrace, "refused trace 7\n"),
     ] {
         let expected = (status, text);
-        assert_eq!(rt; is_drawn(&rt, alloc, old, new, expected), Some(true), "{old} {new}");
+        assert_eq!(rt;
+            is_drawn(&rt, alloc, old, new, expected),
+            Some(true),
+            "{old} {new}"
+        );
     }
     Ok(())
 }

@@ -72,7 +72,11 @@ fn replies_fit_or_fit_nowhere(rt: HostRuntime) -> Result<(), Fail> {
         ),
     ] {
         let expected = (status, text);
-        assert_eq!(rt; is_answered(&rt, alloc, "its fit", told, expected), Some(true), "{told}");
+        assert_eq!(rt;
+            is_answered(&rt, alloc, "its fit", told, expected),
+            Some(true),
+            "{told}"
+        );
     }
     Ok(())
 }
@@ -129,7 +133,13 @@ fn a_stale_translation_fits_where_it_overlaps(rt: HostRuntime) -> Result<(), Fai
         ((0, 5), Status::TraceDiffers),
         ((900, 1_000), Status::TraceDiffers),
     ] {
-        assert_eq!(rt; ends(&rt, alloc, span), Some(status), "{} {}", span.0, span.1);
+        assert_eq!(rt;
+            ends(&rt, alloc, span),
+            Some(status),
+            "{} {}",
+            span.0,
+            span.1
+        );
     }
     Ok(())
 }
