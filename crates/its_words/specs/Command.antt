@@ -23,7 +23,10 @@ bare_app =
 abbrev pub running_app : App
 running_app = with_subcommand (with_subcommand (with_subcommand bare_app (new_app (codes "run")).top) (new_app (codes "check")).top) gen_app.top
 
+abbrev pub fitting_app : App
+fitting_app = with_subcommand running_app fit_app.top
+
 abbrev pub its_app : App
 its_app =
-    with_subcommand (with_subcommand (with_subcommand (with_subcommand (with_subcommand running_app fit_app.top) (new_app (codes "explain")).top)
-    (new_app (codes "draw")).top) (new_app (codes "help")).top) (new_app (codes "version")).top
+    with_subcommand (with_subcommand (with_subcommand (with_subcommand fitting_app (new_app (codes "explain")).top) (new_app (codes "draw")).top)
+    (new_app (codes "help")).top) (new_app (codes "version")).top

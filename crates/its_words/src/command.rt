@@ -2,7 +2,7 @@
 ghost use Rattle.std.specs.Prelude.{◌≡◌, IfOk, codes, false};
 ghost use Rattle.clap.specs.Words.{app_of, rule_of};
 ghost use Rattle.clap.specs.declared.Command.TheViews.{out-Command};
-ghost use Rattle.its_words.specs.Command.{fit_app, gen_app, its_app, needed_rule, running_app};
+ghost use Rattle.its_words.specs.Command.{fit_app, fitting_app, gen_app, its_app, needed_rule, running_app};
 
 use clap::{Arg, ArgAction, Command};
 use std::alloc::{AllocError, Global};
@@ -11,20 +11,26 @@ use std::alloc::{AllocError, Global};
 pub fn its_command<'a>(alloc: Global) -> Result<Command<'a>, AllocError>
     ensures { IfOk result (λ c. app_of c ≡ its_app) }
 {
-    let fit = fit_command(alloc)?;
     let explain = Command::new(alloc, "explain");
     let draw = Command::new(alloc, "draw");
     let help = Command::new(alloc, "help");
     let version = Command::new(alloc, "version");
-    running_command(alloc)?
-        .subcommand(fit)?
+    fitting_command(alloc)?
         .subcommand(explain)?
         .subcommand(draw)?
         .subcommand(help)?
         .subcommand(version)
 }
 
-// The same with the commands alone that run or check something.
+// The same with the commands alone that run, check or fit something.
+fn fitting_command<'a>(alloc: Global) -> Result<Command<'a>, AllocError>
+    ensures { IfOk result (λ c. app_of c ≡ fitting_app) }
+{
+    let fit = fit_command(alloc)?;
+    running_command(alloc)?.subcommand(fit)
+}
+
+// The same without `fit`.
 fn running_command<'a>(alloc: Global) -> Result<Command<'a>, AllocError>
     ensures { IfOk result (λ c. app_of c ≡ running_app) }
 {
