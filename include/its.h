@@ -9,9 +9,10 @@
  * Beside it there is a machine that threads share, by passes, in a library of its own: see its_share.
  *
  * Every pointer is borrowed for the call alone, and nothing is kept of it. A list is a pointer and
- * how many elements it has; at none the pointer isn't read. No two pointers of a call point into the
- * same memory. Every number may be anything: what is out of its range is answered. Where a call
- * doesn't answer ITS_DONE it changed nothing, but for the fault that it tells with ITS_FAULT.
+ * how many elements it has, of at most PTRDIFF_MAX bytes together; at none the pointer isn't read. No
+ * two pointers of a call point into the same memory. Every other number may be anything: what is out
+ * of its range is answered. Where a call doesn't answer ITS_DONE it changed nothing, but for the fault
+ * that it tells with ITS_FAULT.
  *
  * The numbers of an enum have words, which its_text tells, but for those of its_route and its_list;
  * where docs/FORMATS.md prints a word, it is that. Fields have 32 or 64 bits, and no enum's type.

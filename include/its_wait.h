@@ -16,9 +16,10 @@
 extern "C" {
 #endif
 
-/* So many tries are made after pauses alone, and so many before each wait is a sleep of a millisecond. */
+/* Of each ITS_ROUNDS tries so many are followed by pauses alone, so many by no sleep, and one by a sleep. */
 #define ITS_PAUSES 16
 #define ITS_YIELDS 64
+#define ITS_ROUNDS (ITS_YIELDS + 1)
 
 static inline void its_pause(void)
 {
@@ -30,14 +31,16 @@ static inline void its_pause(void)
 }
 
 /*
- * Waits after try number `round`, from 0, and answers 1; at `limit` it answers 0, and hasn't waited.
+ * Waits after try number `round`, from 0, and answers 1; at `limit` it answers 0, and hasn't waited. It
+ * pauses, then yields the processor, then sleeps for a millisecond, and begins again: whoever only sleeps
+ * tries too rarely to find free what others take again and again.
  *
  *     uint32_t code, round = 0;
  *     do
  *         code = its_pass_signal(&pass, device, event, &place, &out);
  *     while (code == ITS_BUSY && its_wait(round++, limit));
  *
- * A limit of ITS_YIELDS never sleeps; one of ITS_YIELDS + 1000 waits for a second at least.
+ * A limit of ITS_YIELDS never sleeps; one of 1000 * ITS_ROUNDS waits for a second at least.
  */
 static inline int its_wait(uint32_t round, uint32_t limit)
 {
@@ -45,6 +48,7 @@ static inline int its_wait(uint32_t round, uint32_t limit)
 
     if (round >= limit)
         return 0;
+    round %= ITS_ROUNDS;
     if (round < ITS_PAUSES) {
         for (pauses = 0; pauses <= round; pauses++)
             its_pause();

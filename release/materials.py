@@ -37,7 +37,7 @@ for one in made:
 for name in sorted(stands_in, key=lambda it: (it not in uses, it)):
     own = name in uses
     folder = f"crates/{name}" if own else f"{kit}/rattle/{name}"
-    print(f"{name:18}{'Bacciledru' if own else 'kit':12}{' '.join(stands_in[name]):28}{checksum(folder + '/src')}")
+    print(f"{name:18}{'Bacciledru' if own else 'kit':12}{' '.join(stands_in[name]):44}{checksum(folder + '/src')}")
     texts = [] if own else sorted(it for it in os.listdir(folder) if it.startswith("LICENSE"))
     for text in texts:
         os.makedirs(f"{licences}/{name}", exist_ok=True)

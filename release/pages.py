@@ -79,7 +79,7 @@ def header_page():
     types = header[header.index("/* Counts the changes") :]
     types = types[: types.rindex("/*", 0, types.index("\nuint32_t its_"))]
     text = head("ITS.H", 3) + f"its.h \\- {roff(first[0].lower() + first[1:].removesuffix('.'))}\n"
-    text += '.SH SYNOPSIS\n.B #include <its.h>\n.PP\nLink with libits_c.a and with three functions of a heap, as examples/monitor/heap.c has them. its_share, its_split and the calls of a pass are in libits_shared.a, which this archive hasn\\(aqt.\n'
+    text += '.SH SYNOPSIS\n.B #include <its.h>\n.PP\nLink with libits_c.a, or with libits_shared.a for its_share, its_split and the calls of a pass, and with three functions of a heap, as examples/monitor/heap.c has them. include/its_wait.h has how to wait where a pass answers ITS_BUSY.\n'
     text += ".SH DESCRIPTION\n" + "\n.PP\n".join(roff(it) for it in others) + "\n.SH CALLS\n"
     for said, call in calls:
         text += f".PP\n.nf\n\\fB{roff(call.strip())}\\fR\n.fi\n.RS\n" + "\n.PP\n".join(roff(it) for it in comment(said)) + "\n.RE\n"

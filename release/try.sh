@@ -1,6 +1,7 @@
 #!/usr/bin/env bash
 # Tries an archive as somebody would who has nothing else: in a fresh Debian, with the packages and the commands of its
-# README, and nothing more. What the monitor, the program and the hypervisor's guest print is compared.
+# README, and nothing more. What the monitor, the program and the hypervisor's guest print is compared; of what the
+# threads are told `its check` has to say `agrees`, and where there is no `its` it has to come to its end.
 #
 # usage: release/try.sh [--arm] ARCHIVE [FOLDER]     as root; FOLDER, in which the system is made, is kept
 #
@@ -92,6 +93,8 @@ while read -r command <&3; do
     fi
     case $command in
         man\ *) grep -q '^NAME' "$root/root/printed" || status=1 ;;
+        *'./threads > '*) tail -n 1 "$root/root/$name/${command##* > }" | grep -qx done || status=1 ;;
+        './its check < '*) grep -qx agrees "$root/root/printed" || status=1 ;;
         *run.sh\ run\ *) grep -q '^first guest: as expected' "$root/root/printed" || status=1 ;;
     esac
     if [ "$status" -eq 0 ]; then

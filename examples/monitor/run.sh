@@ -1,17 +1,41 @@
 #!/usr/bin/env bash
 # Builds and runs the monitors over the library, and compares what they print.
 #
-# usage: examples/monitor/run.sh [times]       x86-64, over crates/its_c/out/libits_c.a; times also tells how long calls take
-#        examples/monitor/run.sh arm ARCHIVE   aarch64, over that libits_c.a, under qemu-user
+# usage: examples/monitor/run.sh [times]                        x86-64; times also tells how long calls take
+#        examples/monitor/run.sh rates|stack|figures [SHARED [ARCHIVE]]
+#                                                x86-64: signals of threads, the stack of each call, or all of docs/LIBRARY.md
+#        examples/monitor/run.sh arm ARCHIVE [SHARED]             aarch64, under qemu-user
 #
-# The library is built first: cd crates/its_c && rt lib [--target aarch64-unknown-linux-gnu]
+# ARCHIVE is libits_c.a and SHARED libits_shared.a; without them those in out/ of crates/its_c and crates/its_shared.
+# They are built first: cd crates/its_c && rt lib [--target aarch64-unknown-linux-gnu], and so in crates/its_shared.
+# MILLISECONDS, ROUNDS and PAUSES in the environment are those of rates.c.
 set -u
 
+usage() {
+    sed -n 's/^# usage: /usage: /p; s/^#        /       /p' "$0" >&2
+    exit 2
+}
+
 here=$(dirname "$(realpath "$0")")
-if [ "${1:-}" = arm ]; then
-    [ $# -eq 2 ] || { sed -n '4,5s/^# //p' "$0" >&2 && exit 2; }
+task=${1:-}
+shared=$here/../../crates/its_shared/out/libits_shared.a
+archive=$here/../../crates/its_c/out/libits_c.a
+case $task in
+    '' | times) [ $# -le 1 ] || usage ;;
+    rates | stack | figures)
+        [ $# -le 3 ] || usage
+        shared=${2:-$shared} archive=${3:-$archive}
+        ;;
+    arm)
+        [ $# -eq 2 ] || [ $# -eq 3 ] || usage
+        archive=$2 shared=${3:-}
+        ;;
+    *) usage ;;
+esac
+archive=$(realpath -m "$archive")
+[ -z "$shared" ] || shared=$(realpath -m "$shared")
+if [ "$task" = arm ]; then
     compiler=${CC:-aarch64-linux-gnu-gcc} static=-static
-    archive=$(realpath -m "$2")
     runner=${RUNNER:-qemu-aarch64-static}
     target=aarch64-unknown-linux-gnu
     export CARGO_TARGET_AARCH64_UNKNOWN_LINUX_GNU_LINKER=$compiler
@@ -22,7 +46,6 @@ if [ "${1:-}" = arm ]; then
     fi
 else
     compiler=${CC:-gcc} static=
-    archive=$(realpath -m "$here/../../crates/its_c/out/libits_c.a")
     runner=
     target=x86_64-unknown-linux-gnu
 fi
@@ -58,6 +81,40 @@ build() {
     "$compiler" -std=c11 -Wall -Wextra -Werror -O2 $static -I../../include "$@" "$archive" -o "$work/$program"
 }
 
+# What threads were told, and the script of their calls, by the program.
+check_history() {
+    [ -x "$program" ] || return 0
+    "$program" check <"$1" | diff - <(echo agrees)
+    tell "what they were told is one history" "$((PIPESTATUS[0] | PIPESTATUS[1]))"
+}
+
+# Builds a program whose threads share a machine, of these C files and archives.
+build_shared() {
+    local program=$1
+    shift
+    "$compiler" -std=c11 -Wall -Wextra -Werror -pedantic -O2 -pthread $static -I../../include "$@" -o "$work/$program"
+}
+
+# Measures over both archives.
+measure() {
+    if [ ! -f "$shared" ]; then
+        echo "$shared isn't there: build it by 'rt lib' in crates/its_shared"
+        return 1
+    fi
+    build_shared "$1" "$1.c" heap.c "$shared" "$archive" && "$work/$1" "${MILLISECONDS:-100}" "${ROUNDS:-3}" "${2:-${PAUSES:-0}}"
+}
+
+case $task in
+    rates | stack)
+        measure "$task"
+        exit
+        ;;
+    figures)
+        measure rates 0 && echo && measure rates 130 && echo && measure stack
+        exit
+        ;;
+esac
+
 if command -v "$compiler" >/dev/null; then
     if command -v python3 >/dev/null; then
         python3 check_header.py ../../include/its.h ../../crates/its_{numbers,c,shared}/src/*.rt >"$work/header.c" &&
@@ -84,23 +141,19 @@ if command -v "$compiler" >/dev/null; then
     tell "the memory of 512 processors, and of a save" $?
     build refusals refusals.c && $runner "$work/refusals"
     tell "each allocation refused in turn" $?
-    shared=../../crates/its_shared/out/libits_shared.a
-    if [ -n "$runner" ]; then
-        : # threads are tried on x86-64
+    if [ -z "$shared" ]; then
+        echo "no archive of passes is given: no threads are tried"
     elif [ -f "$shared" ]; then
         ./check_symbols.sh "$shared" ../../include/its.h
         tell "what the archive of passes calls and has" $?
-        "$compiler" -std=c11 -Wall -Wextra -Werror -pedantic -O2 -pthread -I../../include threads.c heap.c "$shared" -o "$work/threads" &&
-            "$work/threads" >"$work/report"
+        build_shared threads threads.c heap.c "$shared" && $runner "$work/threads" >"$work/report" &&
+            [ "$(tail -n 1 "$work/report")" = done ]
         tell "threads that share a machine" $?
-        if [ -x "$program" ]; then
-            "$program" check <"$work/report" | diff - <(echo agrees)
-            tell "what they were told is one history" "$((PIPESTATUS[0] | PIPESTATUS[1]))"
-        fi
+        check_history "$work/report"
     else
         echo "$shared isn't there: 'rt lib' in crates/its_shared builds it. No threads are tried"
     fi
-    if [ "${1:-}" = times ]; then
+    if [ "$task" = times ]; then
         build times times.c heap.c && "$work/times"
         tell "times" $?
     fi
@@ -118,5 +171,13 @@ else
         cargo build --quiet --release --offline --target "$target" --manifest-path rust/Cargo.toml &&
         $runner "$work/rust/$target/release/monitor" | diff - expected_rust.txt
     tell "monitor in Rust" "$((PIPESTATUS[0] | PIPESTATUS[1]))"
+    if [ -n "$shared" ] && [ -f "$shared" ]; then
+        cp "$shared" "$work/library/libits_shared.a"
+        rustc -O --edition 2021 --target "$target" ${static:+-C target-feature=+crt-static -C "linker=$compiler"} \
+            -L "$work/library" -o "$work/threads_rust" threads.rs && $runner "$work/threads_rust" >"$work/report_rust" &&
+            [ "$(tail -n 1 "$work/report_rust")" = done ]
+        tell "threads in Rust that share a machine" $?
+        check_history "$work/report_rust"
+    fi
 fi
 exit "$failed"

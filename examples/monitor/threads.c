@@ -4,7 +4,7 @@
  * the tables are saved while they run. Each reply is written down with its place, and all are printed in
  * the order of their places, behind a script of the same calls: what `its check` reads.
  *
- * usage: threads [SIGNALS]   how many signals each device makes; 500 without it
+ * usage: threads [SIGNALS]   how many signals each device makes at least; 500 without it
  */
 #include "its_wait.h"
 
@@ -46,6 +46,7 @@ struct caller {
 };
 
 static atomic_uint devices_left = DEVICES;
+static atomic_uint saves_made;
 static uint32_t signals = 500;
 
 static void fail(const char *what, uint32_t code)
@@ -60,7 +61,7 @@ static int again(struct caller *caller, uint32_t code, uint32_t *round)
     if (code != ITS_BUSY)
         return 0;
     caller->busy++;
-    if (!its_wait((*round)++, ITS_YIELDS + 10000))
+    if (!its_wait((*round)++, 10000 * ITS_ROUNDS))
         fail("a call that waited for ten seconds", code);
     return 1;
 }
@@ -221,13 +222,14 @@ static uint32_t drive(struct caller *root)
     return at;
 }
 
+/* So many signals, and more until the tables were saved beside them. */
 static void *device_thread(void *argument)
 {
     struct caller *caller = argument;
     uint32_t device = caller->number - 1, i, j;
     uint8_t data[8];
 
-    for (i = 0; i < signals; i++) {
+    for (i = 0; i < signals || (atomic_load(&saves_made) == 0 && caller->count < CALLS - 1000); i++) {
         if (i % 8 == 0) {
             for (j = 0; j < sizeof data; j++)
                 data[j] = (uint8_t)(i + j);
@@ -281,10 +283,11 @@ static void *saving_thread(void *argument)
 {
     struct caller *caller = argument;
 
-    while (atomic_load(&devices_left) != 0) {
+    do {
         save(caller);
+        atomic_fetch_add(&saves_made, 1);
         (void)poll(NULL, 0, 2);
-    }
+    } while (atomic_load(&devices_left) != 0);
     return NULL;
 }
 

@@ -6,9 +6,9 @@
 #        run.sh kernels DIR            more of Debian's kernels for scenarios: 5.10, 6.12 (also -rt and 16k), the newest
 #        run.sh patch QEMU ARCHIVE     prints what is put into the files of a tree of QEMU, as a patch
 #        run.sh boot DIR library|own   boots the guest, with a shell on this terminal
-#        run.sh scenarios DIR [library|own [NAME ..]]          runs scenarios, and prints a table
-#        run.sh check DIR PROGRAM [NAME ..]        whether what the library answered in a scenario is the plain translator's
-#        run.sh speed DIR              times of both translators
+#        run.sh scenarios DIR [both|library|own [NAME ..]]     runs scenarios, and prints a table
+#        run.sh check DIR PROGRAM [RECORD ..]  whether what the library answered in a scenario is the plain translator's
+#        run.sh speed DIR [SECONDS]    times of both translators; SECONDS of load, 20 where none are said
 set -eu
 
 here=$(dirname "$(realpath "$0")")

@@ -1,10 +1,10 @@
 /*
- * Looks on while QEMU runs with its_device.c, or with its own ITS. The linker sends the calls named
+ * Looks on while QEMU runs with the device, or with its own ITS. The linker sends the calls named
  * here through the functions `__wrap_*` (wire.py), so nothing of this stands in the device.
  *
- * ITS_RECORD=FILE  each call that goes to the library, with what it answered, in the words of
- *                  docs/FORMATS.md, and a checksum of the state at each save and after each restore:
- *                  to_script.py makes a script and a report of it; SIGUSR2 ends it
+ * ITS_RECORD=FILE  each call of the library that a script has a line for, with what it answered, in
+ *                  the words of docs/FORMATS.md, and a checksum of the state at each save and after
+ *                  each restore: to_script.py makes a script and a report of it; SIGUSR2 ends it
  * ITS_TIMES=FILE   how long signals, commands and acknowledgements take, of both translators
  *
  * SPDX-License-Identifier: MIT OR Apache-2.0

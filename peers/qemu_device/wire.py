@@ -163,7 +163,7 @@ def redistributor(tree):
 
 def machine(tree):
     path = "hw/arm/virt.c"
-    tree.put("include/hw/arm/virt.h", r"bool its;", "    char *its_device;\n", after=True)
+    tree.put("include/hw/arm/virt.h", r"bool tcg_its;", "    char *its_device;\n", after=True)
     tree.put(path, r"static bool virt_get_its\(", PROPERTY)
     tree.put(path, r'object_class_property_add_bool\(oc, "its"', REGISTERED)
     tree.replace(path, r"qdev_new\((itsclass|its_class_name\(\))\);", MADE)

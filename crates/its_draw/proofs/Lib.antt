@@ -1,3 +1,4 @@
 pub mod Shows
+pub mod Legs
 pub mod Said
 pub mod Starts

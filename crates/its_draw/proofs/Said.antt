@@ -5,7 +5,7 @@ use Rattle.its_answers.specs.Streams.{WasRead}
 use Rattle.its_answers.specs.declared.status.Status.{Status}
 use Rattle.its_answers.specs.declared.status.Status.TheVariants as status
 use Rattle.its_answers.proofs.Causes.{said_causes}
-use Rattle.its_draw.specs.Draws.{DrawCauses, DrawSays, IsAgreed, IsPictureOf}
+use Rattle.its_draw.specs.Draws.{DrawCauses, DrawSays, IsAgreed}
 
 -- a check that agrees says one line
 pub agreed : (input line : List ℕ) → (h : CheckSays input status.Ok line) → IsAgreed input

@@ -1,32 +1,47 @@
 -- What `draw` says of a script and a report.
-use Rattle.std.specs.Prelude.{◌≡◌, ℕ, List, codes, Option, Ok, IfOk}
-use Rattle.event_script.specs.Script.{check_of}
-use Rattle.event_script.specs.Text.{parts}
+use Rattle.std.specs.Prelude.{◌≡◌, ℕ, List, [], codes, Option, Ok}
 use Rattle.event_script.specs.declared.script.Script.{Script}
 use Rattle.its_plain.specs.Described.{IsFirstState}
 use Rattle.its_plain.specs.Machine.{IsDescription}
 use Rattle.its_plain.specs.Plain.{Plain}
-use Rattle.its_answers.specs.Checked.{CheckCauses, CheckSays, read_report}
+use Rattle.its_plain.specs.Runs.{IsRun}
+use Rattle.its_plain.specs.declared.call.Entry.{Entry}
+use Rattle.its_answers.specs.Checked.{CheckCauses, CheckSays, IsCheckInput, read_report}
+use Rattle.its_answers.specs.Legs.{all_told}
 use Rattle.its_answers.specs.Streams.{WasRead}
 use Rattle.its_answers.specs.declared.status.Status.{Status}
 use Rattle.its_answers.specs.declared.status.Status.TheVariants as status
 use Rattle.its_history.specs.declared.trace.Leg.{Leg as LegLines}
-use Rattle.its_draw.specs.Replays.{all_lines, told}
+use Rattle.its_draw.specs.Replays.{ShowsRuns, all_lines, all_marks, marks, told}
 use Rattle.its_draw.specs.Svg.{svg_text}
 use Rattle.its_draw.specs.declared.drawing.Drawing.{Drawing}
+use Rattle.its_draw.specs.declared.drawing.Shown.{Shown}
 
--- it is that of a drawing whose calls are the lines of these legs, in their order
-pub record IsPicture (legs : List LegLines) (text : List ℕ) : Type 0 where
+-- what is shown has these lines, and the marks of a run of the script that they tell
+pub record IsDrawn (script : Script) (legs : List LegLines) (calls : List Shown) : Type 0 where
+  pub lines_are : told calls ≡ all_lines legs
+  pub marks_are : (first : Plain) → IsFirstState script.desc first → ShowsRuns first script legs [] calls
+
+-- it is that of a drawing of these legs
+pub record IsPicture (script : Script) (legs : List LegLines) (text : List ℕ) : Type 0 where
   pub drawing : Drawing
-  pub lines_are : told drawing.calls ≡ all_lines legs
+  pub is_drawn : IsDrawn script legs drawing.calls
   pub text_is : text ≡ svg_text drawing
 
--- of the report in these bytes, where it has the shape of one
+-- The bytes are a script and the report of a run of it. The text is that of a drawing whose calls are the lines of the report, in
+-- their order, each with the mark of its call as the run answered it.
 pub record IsPictureOf (input text : List ℕ) : Type 0 where
   pub script : Script
+  pub first : Plain
   pub report : List ℕ
-  pub is_input : check_of input ≡ Ok (script, parts report)
-  pub picture : IfOk (read_report script report) (λ legs. IsPicture legs text)
+  pub is_input : IsCheckInput input script first report
+  pub histories : List (List Entry)
+  pub is_run : IsRun first script.legs histories
+  pub read : read_report script report ≡ Ok (all_told script first histories)
+  pub drawing : Drawing
+  pub lines_are : told drawing.calls ≡ all_lines (all_told script first histories)
+  pub marks_are : marks drawing.calls ≡ all_marks histories
+  pub text_is : text ≡ svg_text drawing
 
 -- a check says so
 abbrev pub IsAgreed : List ℕ → Type 0

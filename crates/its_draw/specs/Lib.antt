@@ -4,5 +4,6 @@ pub mod Elements
 pub mod Calls
 pub mod Rest
 pub mod Svg
+pub mod Fields
 pub mod Replays
 pub mod Draws

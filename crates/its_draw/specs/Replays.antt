@@ -1,46 +1,28 @@
--- What the calls of a leg show, made again in the order of its lines.
-use Rattle.std.specs.Prelude.{◌≡◌, ℕ, List, map}
+-- What the calls of a report show, made again in the order of its lines.
+use Rattle.std.specs.Prelude.{◌≡◌, ℕ, List, ◌++◌, map, Some}
 use Rattle.std.specs.List.{flat_map}
 use Rattle.its_plain.specs.Plain.{Plain}
 use Rattle.its_plain.specs.Answer.{answer}
-use Rattle.its_plain.specs.History.{IsLegal, after}
+use Rattle.its_plain.specs.History.{after}
+use Rattle.its_plain.specs.Runs.{Leg, IsLegRun, IsRun}
 use Rattle.its_plain.specs.declared.call.Call.{Call}
 use Rattle.its_plain.specs.declared.call.Entry.{Entry}
+use Rattle.event_script.specs.declared.script.Script.{Script}
 use Rattle.its_history.specs.Report.{told_text}
-use Rattle.its_history.specs.Texts.{answered_text}
+use Rattle.its_history.specs.Reports.{reported}
 use Rattle.its_history.specs.declared.trace.EntryLine.{EntryLine}
-use Rattle.its_history.specs.declared.trace.Leg.{Leg}
+use Rattle.its_history.specs.declared.trace.Leg.{Leg as LegLines}
+use Rattle.trace_check.specs.Cursors.{Progress, next_call, taken}
+use Rattle.trace_check.specs.Differences.{lines as run_lines}
+use Rattle.trace_check.specs.Verdicts.{copies_of}
 use Rattle.its_draw.specs.Marks.{mark_of}
 use Rattle.its_draw.specs.declared.drawing.Shown.{Shown}
 use Rattle.its_draw.specs.declared.mark.Mark.{Mark}
-use Rattle.its_draw.specs.declared.replay.Went.{Went}
-use Rattle.its_draw.specs.declared.replay.Went.TheVariants.{On, Astray}
 
--- ---- one line
-
--- it tells a call as the plain translator answers it, and what is shown is that call
-pub record IsShown (u : Plain) (line : EntryLine) (s : Shown) (w : Plain) : Type 0 where
-  pub call : Call
-  pub text : line.text ≡ answered_text call (answer u call).0
-  pub mark : s.mark ≡ mark_of call (answer u call).0
-  pub state : w ≡ (answer u call).1
-
--- ---- the lines of a leg
-
-abbrev pub text_of : EntryLine → List ℕ
-text_of l = l.text
+-- ---- lines
 
 abbrev pub told_of : EntryLine → ℕ × List ℕ
 told_of l = (l.thread, told_text l.phase l.thread l.text)
-
-abbrev pub entry_text : Entry → List ℕ
-entry_text e = answered_text e.call e.reply
-
-abbrev pub entry_mark : Entry → Mark
-entry_mark e = mark_of e.call e.reply
-
-abbrev pub shown_mark : Shown → Mark
-shown_mark s = s.mark
 
 abbrev pub shown_told : Shown → ℕ × List ℕ
 shown_told s = (s.thread, s.text)
@@ -52,25 +34,47 @@ told shown = map shown_told shown
 abbrev pub lines : List EntryLine → List (ℕ × List ℕ)
 lines entries = map told_of entries
 
-abbrev pub leg_lines : Leg → List (ℕ × List ℕ)
+abbrev pub leg_lines : LegLines → List (ℕ × List ℕ)
 leg_lines leg = lines leg.entries
 
-abbrev pub all_lines : List Leg → List (ℕ × List ℕ)
+abbrev pub all_lines : List LegLines → List (ℕ × List ℕ)
 all_lines legs = flat_map leg_lines legs
 
-abbrev pub both : Went → Went → Went
-both On w = w
-both Astray w = Astray
+-- ---- marks
 
--- where a line goes as a run's
-abbrev pub IfOn : Went → Type 0 → Type 0
-IfOn On P = P
-IfOn Astray P = Unit {0}
+abbrev pub shown_mark : Shown → Mark
+shown_mark s = s.mark
 
--- they tell a history of the plain translator, and each call is shown as that history has it
-pub record AreShown (first : Plain) (entries : List EntryLine) (shown : List Shown) (now : Plain) : Type 0 where
-  pub history : List Entry
-  pub legal : IsLegal first history
-  pub texts : map text_of entries ≡ map entry_text history
-  pub marks : map shown_mark shown ≡ map entry_mark history
-  pub now_is : now ≡ after first history
+-- those that are shown
+abbrev pub marks : List Shown → List Mark
+marks shown = map shown_mark shown
+
+abbrev pub entry_mark : Entry → Mark
+entry_mark e = mark_of e.call e.reply
+
+-- those of a history
+abbrev pub marks_of : List Entry → List Mark
+marks_of history = map entry_mark history
+
+abbrev pub all_marks : List (List Entry) → List Mark
+all_marks histories = flat_map marks_of histories
+
+-- ---- calls that are made again
+
+-- where the line's thread has a next call, that call is made, and shown as it is answered
+abbrev pub ShowsNext : Plain → Progress → EntryLine → Shown → Plain → Progress → Type 0
+ShowsNext u p line s w q =
+    (i : ℕ) (call : Call) → next_call p line.phase line.thread ≡ Some (i, call)
+    → (s.mark ≡ mark_of call (answer u call).0) × (w ≡ (answer u call).1) × (q ≡ taken i p)
+
+-- where the lines are those of a run of the leg, each call of that run is shown as it was answered, after those that were shown
+-- before, and this is the state after it
+abbrev pub ShowsRun : Plain → Leg → List EntryLine → List Shown → List Shown → Plain → Type 0
+ShowsRun first leg entries before shown now =
+    (h : List Entry) → IsLegRun first leg h → entries ≡ run_lines leg h → (marks shown ≡ marks before ++ marks_of h) × (now ≡ after first h)
+
+-- where this is what a report tells of a run of the script, each call of all its legs is shown as it was answered
+abbrev pub ShowsRuns : Plain → Script → List LegLines → List Shown → List Shown → Type 0
+ShowsRuns first script legs before shown =
+    (histories : List (List Entry)) → IsRun first script.legs histories → legs ≡ reported first script.legs (copies_of script.moves) histories
+    → marks shown ≡ marks before ++ all_marks histories

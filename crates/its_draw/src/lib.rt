@@ -3,10 +3,10 @@
 #![tactic(auto)]
 
 mod calls;
+mod cursor;
 mod drawing;
 mod elements;
 mod events;
-mod heads;
 mod mark;
 mod places;
 mod replay;

@@ -1,50 +1,24 @@
 //! The calls of a report made again, and what each did.
-ghost use Rattle.std.specs.Prelude.{◌≡◌, IfOk};
+ghost use Rattle.std.specs.Prelude.{◌≡◌, [], IfOk};
 ghost use Rattle.its_plain.specs.Answer as plain;
+ghost use Rattle.its_draw.specs.Fields.{IsCounted, progress};
 ghost use Rattle.its_draw.specs.Replays as spec;
-ghost use Rattle.its_draw.specs.Replays.{AreShown, IfOn, IsShown};
-ghost use Rattle.its_draw.specs.declared.replay.Went.TheVariants as ways;
+ghost use Rattle.its_draw.specs.Replays.{ShowsNext, ShowsRun};
 
+use crate::cursor::Cursor;
 use crate::drawing::Shown;
 use crate::events::{EventKey, Rows};
-use crate::heads::Heads;
 use crate::mark::{Mark, mark_of};
 use cmd_exec::{Met, meet};
 use event_script::Phase;
 use its_command::Command;
-use its_history::{EntryLine, answered_text, told_text};
+use its_history::{EntryLine, told_text};
 use its_plain::{Call, Reply, Route};
 use owned_machine::Machine;
 use std::alloc::{AllocError, Global};
 
-/// Whether lines are those of a run.
-#[derive(Clone, Copy, Debug, PartialEq, Eq)]
-pub enum Went {
-    /// They are.
-    On,
-    /// One isn't.
-    Astray,
-}
-
-/// What a line shows.
-#[derive(Drop)]
-pub struct One {
-    /// The call.
-    pub shown: Shown,
-    /// Whether the line is that of a run.
-    pub went: Went,
-}
-
-/// What lines show.
-#[derive(Drop)]
-pub struct Many {
-    /// Their calls.
-    pub shown: Vec<Shown>,
-    /// Whether the lines are those of a run.
-    pub went: Went,
-}
-
-/// Makes the calls of a leg again, of which the first stands in this column.
+/// Makes the calls of a leg again, of which the first stands in this column. Each is shown as it is
+/// answered, where the lines are those of a run of the leg.
 pub fn show_entries(
     alloc: Global,
     machine: &mut Machine,
@@ -52,69 +26,46 @@ pub fn show_entries(
     leg: &[Phase],
     entries: &[EntryLine],
     column: u32,
-) -> Result<Many, AllocError>
-    ensures told { IfOk result (λ m. spec.told m.shown.items ≡ spec.lines entries.now) }
-    ensures run { IfOk result (λ m. IfOn m.went
-        (AreShown machine.old entries.now m.shown.items machine.new)) }
+) -> Result<Vec<Shown>, AllocError>
+    ensures told { IfOk result (λ shown. spec.told shown.items ≡ spec.lines entries.now) }
+    ensures run { IfOk result (λ shown.
+        ShowsRun machine.old leg.now entries.now [] shown.items machine.new) }
 {
-    let mut heads = Heads::new(alloc, leg);
+    let mut cursor = Cursor::new(alloc, leg)?;
     let mut shown = Vec::new(alloc);
-    let mut went = Went::On;
     let mut column = column;
     for line in entries {
-        let one = show_entry(alloc, machine, rows, &mut heads, line, column)?;
-        went = both(went, one.went);
-        shown.push(one.shown)?;
+        let one = show_entry(alloc, machine, rows, &mut cursor, line, column)?;
+        shown.push(one)?;
         column = column.saturating_add(1);
     }
-    Ok(Many { shown, went })
+    Ok(shown)
 }
 
-/// Whether both went on.
-fn both(first: Went, second: Went) -> Went
-    ensures { result ≡ spec.both first second }
-{
-    match first {
-        Went::On => second,
-        Went::Astray => Went::Astray,
-    }
-}
-
-/// Makes the call of a line again, if its thread has one left.
+/// Makes the next call of a line's thread again. A line whose thread has none is shown as any other
+/// call.
 fn show_entry(
     alloc: Global,
     machine: &mut Machine,
     rows: &mut Rows,
-    heads: &mut Heads<'_>,
+    cursor: &mut Cursor<'_>,
     line: &EntryLine,
     column: u32,
-) -> Result<One, AllocError>
-    ensures told { IfOk result (λ o. spec.shown_told o.shown ≡ spec.told_of line.now) }
-    ensures run { IfOk result (λ o. IfOn o.went
-        (IsShown machine.old line.now o.shown machine.new)) }
+) -> Result<Shown, AllocError>
+    requires { IsCounted cursor.old }
+    ensures told { IfOk result (λ s. spec.shown_told s ≡ spec.told_of line.now) }
+    ensures counted { IfOk result (λ s. IsCounted cursor.new) }
+    ensures next { IfOk result (λ s. ShowsNext machine.old (progress cursor.old) line.now s
+        machine.new (progress cursor.new)) }
 {
-    let Some(call) = heads.take(line.phase, line.thread)? else {
-        return astray(alloc, line, column);
+    let (phase, thread) = (u64::from(line.phase), u64::from(line.thread));
+    let Some(next) = cursor.next_call(phase, thread) else {
+        return shown_as(alloc, line, column, Mark::Other, None);
     };
-    let row = row_of(rows, &call);
-    let reply = make(alloc, machine, rows, &call, column)?;
-    let text = answered_text(alloc, &call, &reply)?;
-    if text.as_str() != line.text.as_str() {
-        return astray(alloc, line, column);
-    }
-    let shown = shown_as(alloc, line, column, mark_of(&call, &reply), row)?;
-    let went = Went::On;
-    Ok(One { shown, went })
-}
-
-/// A line that tells no call of a run.
-fn astray(alloc: Global, line: &EntryLine, column: u32) -> Result<One, AllocError>
-    ensures told { IfOk result (λ o. spec.shown_told o.shown ≡ spec.told_of line.now) }
-    ensures went { IfOk result (λ o. o.went ≡ ways.Astray) }
-{
-    let shown = shown_as(alloc, line, column, Mark::Other, None)?;
-    let went = Went::Astray;
-    Ok(One { shown, went })
+    let row = row_of(rows, &next.call);
+    let reply = make(alloc, machine, rows, &next.call, column)?;
+    cursor.take(alloc, next.thread)?;
+    shown_as(alloc, line, column, mark_of(&next.call, &reply), row)
 }
 
 /// A line with a mark.

@@ -1,11 +1,12 @@
 //! What is said to a script and a report: a picture, or why there is none.
-ghost use Rattle.std.specs.Prelude.{◌≡◌, IfOk, [], Ok};
+ghost use Rattle.std.specs.Prelude.{◌≡◌, IfOk, Ok};
 ghost use Rattle.std.specs.String.{string_bytes};
 ghost use Rattle.its_answers.specs.Checked.{read_report};
 ghost use Rattle.its_history.specs.Reading.{IsReadAs};
+ghost use Rattle.its_plain.specs.Described.{IsFirstState};
 ghost use Rattle.trace_check.specs.Verdicts.{copies_for, copies_of};
-ghost use Rattle.its_draw.specs.Draws.{DrawSays, IsAgreed, IsPicture, IsPictureOf, StartsWell};
-ghost use Rattle.its_draw.specs.Replays.{all_lines, told};
+ghost use Rattle.its_draw.specs.Draws.{DrawSays, IsAgreed, IsDrawn, IsPicture, IsPictureOf};
+ghost use Rattle.its_draw.specs.Draws.{StartsWell};
 
 use crate::drawing::Drawing;
 use crate::scene::Scene;
@@ -52,7 +53,8 @@ fn draw(alloc: Global, input: &[u8]) -> Result<String, AllocError>
 fn draw_report(alloc: Global, script: &Script, report: &[u8]) -> Result<String, AllocError>
     requires { StartsWell script.now }
     ensures { IfOk result (λ text.
-        IfOk (read_report script.now report.now) (λ legs. IsPicture legs (string_bytes text))) }
+        IfOk (read_report script.now report.now)
+        (λ legs. IsPicture script.now legs (string_bytes text))) }
 {
     match read_trace(alloc, script, report) {
         Ok(trace) => {
@@ -67,7 +69,7 @@ fn draw_report(alloc: Global, script: &Script, report: &[u8]) -> Result<String, 
 /// The picture of a report's legs.
 fn draw_trace(alloc: Global, script: &Script, trace: &Trace) -> Result<String, AllocError>
     requires { StartsWell script.now }
-    ensures { IfOk result (λ text. IsPicture trace.now.legs (string_bytes text)) }
+    ensures { IfOk result (λ text. IsPicture script.now trace.now.legs (string_bytes text)) }
 {
     let drawing = drawing_of(alloc, script, trace)?;
     let text = svg_text(alloc, &drawing)?;
@@ -77,7 +79,7 @@ fn draw_trace(alloc: Global, script: &Script, trace: &Trace) -> Result<String, A
 /// What the picture of a report's legs shows.
 fn drawing_of(alloc: Global, script: &Script, trace: &Trace) -> Result<Drawing, AllocError>
     requires { StartsWell script.now }
-    ensures { IfOk result (λ d. told d.calls ≡ all_lines trace.now.legs) }
+    ensures { IfOk result (λ d. IsDrawn script.now trace.now.legs d.calls) }
 {
     let machine = first_machine(alloc, script)?;
     let mut scene = Scene::new(alloc, machine)?;
@@ -88,6 +90,7 @@ fn drawing_of(alloc: Global, script: &Script, trace: &Trace) -> Result<Drawing, 
 /// The machine of a script, in its first state.
 fn first_machine(alloc: Global, script: &Script) -> Result<Machine, AllocError>
     requires { StartsWell script.now }
+    ensures { IfOk result (λ machine. IsFirstState script.now.desc machine) }
 {
     match Machine::new(alloc, &script.desc) {
         Ok(machine) => Ok(machine),

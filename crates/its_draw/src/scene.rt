@@ -1,7 +1,9 @@
 //! A report's picture: its legs one after another.
-ghost use Rattle.std.specs.Prelude.{◌≡◌, ◌++◌, [], IfOk, OnOk};
+ghost use Rattle.std.specs.Prelude.{◌≡◌, ◌++◌, ◌+◌, ◌<◌, [], IfOk, OnOk, length, slice_index_or};
+ghost use Rattle.its_plain.specs.Saved.{IsSavable, moved};
+ghost use Rattle.owned_machine.specs.Migrations.{Migrates};
 ghost use Rattle.its_draw.specs.Replays as spec;
-ghost use Rattle.its_draw.specs.Replays.{all_lines, told};
+ghost use Rattle.its_draw.specs.Replays.{ShowsRun, ShowsRuns, all_lines, told};
 
 use crate::drawing::{Drawing, Pending, Shown, Wall};
 use crate::events::Rows;
@@ -30,7 +32,8 @@ pub struct Scene {
 impl Scene {
     /// Before the first leg. The machine stands in its first state.
     pub fn new(alloc: Global, machine: Machine) -> Result<Scene, AllocError>
-        ensures { IfOk result (λ s. s.calls.items ≡ []) }
+        ensures calls { IfOk result (λ s. s.calls.items ≡ []) }
+        ensures machine { IfOk result (λ s. s.machine ≡ machine) }
     {
         let mut rows = Rows::new(alloc);
         for its in 0..2 {
@@ -53,34 +56,39 @@ impl Scene {
 
     /// Shows the legs of a report, and how the machine goes from each to the next.
     pub fn show(&mut self, script: &Script, trace: &Trace) -> Result<(), AllocError>
-        ensures { OnOk result (told self.new.calls.items
+        ensures told { OnOk result (told self.new.calls.items
             ≡ told self.old.calls.items ++ all_lines trace.now.legs) }
+        ensures run { OnOk result (ShowsRuns self.old.machine script.now trace.now.legs
+            self.old.calls.items self.new.calls.items) }
     {
-        let moves = script.moves.as_slice();
         for (index, lines) in trace.legs.as_slice().iter().enumerate() {
             let leg = leg_at(script, index);
             self.show_leg(leg, lines, index)?;
-            self.move_on(moves.get(index).copied())?;
+            self.move_on(script, index)?;
         }
         Ok(())
     }
 
     /// Shows a leg, of which the first is 0.
     fn show_leg(&mut self, leg: &[Phase], lines: &Leg, index: usize) -> Result<(), AllocError>
-        ensures { OnOk result (told self.new.calls.items
+        ensures told { OnOk result (told self.new.calls.items
             ≡ told self.old.calls.items ++ spec.lines lines.now.entries) }
+        ensures run { OnOk result (ShowsRun self.old.machine leg.now lines.now.entries
+            self.old.calls.items self.new.calls.items self.new.machine) }
     {
         let entries = lines.entries.as_slice();
         self.add_walls(entries, index)?;
         let (alloc, column) = (self.alloc, self.column);
         let rows = &mut self.rows;
-        let many = show_entries(alloc, &mut self.machine, rows, leg, entries, column)?;
-        self.add_calls(many.shown)?;
+        let shown = show_entries(alloc, &mut self.machine, rows, leg, entries, column)?;
+        self.add_calls(shown)?;
         self.add_pending()
     }
 
     fn add_calls(&mut self, shown: Vec<Shown>) -> Result<(), AllocError>
-        ensures { OnOk result (self.new.calls.items ≡ self.old.calls.items ++ shown.items) }
+        ensures calls { OnOk result
+            (self.new.calls.items ≡ self.old.calls.items ++ shown.items) }
+        ensures machine { self.new.machine ≡ self.old.machine }
     {
         let mut shown = shown;
         for one in &shown {
@@ -92,7 +100,8 @@ impl Scene {
 
     /// Walls before the leg, if it isn't the first, and before each phase.
     fn add_walls(&mut self, entries: &[EntryLine], index: usize) -> Result<(), AllocError>
-        ensures { self.new.calls.items ≡ self.old.calls.items }
+        ensures calls { self.new.calls.items ≡ self.old.calls.items }
+        ensures machine { self.new.machine ≡ self.old.machine }
     {
         let mut column = self.column;
         if index > 0 {
@@ -120,7 +129,8 @@ impl Scene {
 
     /// What is pending at the virtual processors that have a lane, in columns of its own.
     fn add_pending(&mut self) -> Result<(), AllocError>
-        ensures { self.new.calls.items ≡ self.old.calls.items }
+        ensures calls { self.new.calls.items ≡ self.old.calls.items }
+        ensures machine { self.new.machine ≡ self.old.machine }
     {
         let column = self.column;
         for vcpu in 0..MOST_LANES {
@@ -139,21 +149,33 @@ impl Scene {
         Ok(())
     }
 
-    /// Goes on to the next leg, if there is one and the state can be saved.
-    fn move_on(&mut self, way: Option<Move>) -> Result<(), AllocError>
-        ensures { self.new.calls.items ≡ self.old.calls.items }
+    /// Goes on after a leg, of which the first is 0: to the next one, if there is one and the state
+    /// can be saved.
+    fn move_on(&mut self, script: &Script, index: usize) -> Result<(), AllocError>
+        ensures calls { self.new.calls.items ≡ self.old.calls.items }
+        ensures moved { OnOk result (index + 1 < length script.now.legs
+            → IsSavable self.old.machine → self.new.machine ≡ moved self.old.machine) }
     {
-        let moved = match way {
-            None => Ok(()),
-            Some(Move::Migrate) => self.machine.migrate(self.alloc),
-            Some(Move::Precopy) => match self.machine.precopy(self.alloc) {
-                Ok(_) => Ok(()),
-                Err(error) => Err(error),
-            },
-        };
-        match moved {
+        if script.legs.len().saturating_sub(index) < 2 {
+            return Ok(());
+        }
+        match self.migrate(script.moves.as_slice().get(index).copied()) {
             Ok(()) | Err(SaveError::Fault(_)) => Ok(()),
             Err(SaveError::NoMemory) => Err(AllocError),
+        }
+    }
+
+    /// Migrates the machine, with its pages copied before or not.
+    fn migrate(&mut self, way: Option<Move>) -> Result<(), SaveError>
+        ensures calls { self.new.calls.items ≡ self.old.calls.items }
+        ensures moved { Migrates result self.old.machine self.new.machine }
+    {
+        match way {
+            Some(Move::Precopy) => {
+                self.machine.precopy(self.alloc)?;
+                Ok(())
+            }
+            Some(Move::Migrate) | None => self.machine.migrate(self.alloc),
         }
     }
 
@@ -182,7 +204,9 @@ impl Scene {
 }
 
 /// The calls of a leg, of which the first is 0.
-fn leg_at(script: &Script, index: usize) -> &[Phase] {
+fn leg_at(script: &Script, index: usize) -> &[Phase]
+    ensures { result.now ≡ slice_index_or script.now.legs index [] }
+{
     match script.legs.as_slice().get(index) {
         Some(leg) => leg.as_slice(),
         None => &[],

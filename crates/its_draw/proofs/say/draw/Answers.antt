@@ -10,4 +10,4 @@ unreachable-requires c = no_fault_as c.args.input.now c.in-Err-Fault.field-0 _ c
 
 pub returns-in_ok-text-in-Ok : goal.returns-in_ok-text-in-Ok
 returns-in_ok-text-in-Ok c =
-    of_input c.args.input.now c.in-Ok.read.script c.in-Ok.read.report.now _ c.in-Ok.ensures c.in_ok-text-in-Ok.ensures
+    of_input c.args.input.now c.in-Ok.read.script c.in-Ok.read.report.now _ c.requires c.in-Ok.ensures c.in_ok-text-in-Ok.ensures
