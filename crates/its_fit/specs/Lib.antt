@@ -1,0 +1,4 @@
+pub mod Explained
+pub mod Replays
+pub mod Ordered
+pub mod Verdicts
