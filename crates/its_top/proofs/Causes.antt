@@ -12,7 +12,7 @@ use Rattle.its_words.specs.Words.{asked_of}
 use Rattle.its_words.specs.declared.words.Asked.{Asked}
 use Rattle.its_words.specs.declared.words.Asked.TheVariants.{Run, Check, Gen, Explain, Draw, Help, Version}
 use Rattle.its_answers.specs.Checked.{CheckCauses}
-use Rattle.its_top.specs.Its.{Causes, WordsCauses, AskedCauses, IsDecided, IsRunDecided, AskedDecides, ReadDecides, TextCauses}
+use Rattle.its_top.specs.Its.{Causes, WordsCauses, AskedCauses, IsDecided, IsRunDecided, IsCheckDecided, AskedDecides, ReadDecides, TextCauses}
 use Rattle.its_answers.specs.Its.{RunCauses, IsScript, OfScript, IsReport, IsMigrationRefusal, IsSpentReport, ExplainCauses}
 use Rattle.its_answers.specs.Streams.{WasRead}
 use Rattle.its_top.specs.Summarized.{GenCauses}
