@@ -1,9 +1,8 @@
 -- What is said to a script and what its threads were answered.
-use Rattle.std.specs.Prelude.{◌≡◌, ◌⊎◌, ℕ, List, [], ◌∷◌, ◌++◌, codes, Ok, Err}
+use Rattle.std.specs.Prelude.{◌≡◌, ℕ, List, [], ◌∷◌, ◌++◌, codes, Ok, Err}
 use Rattle.std.specs.String.{string_bytes}
 use Rattle.event_script.specs.Script.{check_of}
 use Rattle.event_script.specs.Text.{parts}
-use Rattle.event_script.specs.declared.fault.ScriptFault.{ScriptFault}
 use Rattle.event_script.specs.declared.script.Script.{Script}
 use Rattle.its_plain.specs.Described.{IsRefused}
 use Rattle.its_plain.specs.Runs.{Phase}
@@ -57,10 +56,6 @@ pub record OfScript (input : List ℕ) (bound : ℕ) (o : Outcome) : Type 0 wher
   pub read : check_of input ≡ Ok (script, parts report)
   pub says : ScriptSays script report bound o
 
-pub record OfNone (input : List ℕ) (o : Outcome) : Type 0 where
-  pub fault : ScriptFault
-  pub is : o ≡ NoScript fault
-  pub read : check_of input ≡ Err fault
-
 abbrev pub Says : List ℕ → ℕ → Outcome → Type 0
-Says input bound o = OfNone input o ⊎ OfScript input bound o
+Says input bound (NoScript fault) = check_of input ≡ Err fault
+Says input bound o = OfScript input bound o
