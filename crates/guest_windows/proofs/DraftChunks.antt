@@ -6,18 +6,18 @@ use Rattle.std.proofs.lemmas.Bool.{and_parts, eqb-true, cases_Bool}
 use Rattle.std.proofs.lemmas.Bool.Decides.{nat_tests}
 use Rattle.std.proofs.lemmas.List.{get_or-set_same, get_or-set_other, get_or_append_left, length-map}
 use Rattle.guest_windows.specs.Pages.{rows, page_row}
-use Rattle.guest_windows.specs.Drafts.{own_rows, row_of, first_of, own_page, own_of, own_place, key_place, byte_over, byte_laid, Lays, Wrote}
+use Rattle.guest_windows.specs.Drafts.{chunk_rows, numbered, first_of, own_page, own_of, own_place, key_place, byte_over, byte_laid, Lays, Wrote}
 use Rattle.guest_windows.specs.declared.frame.Frame.{Frame}
-use Rattle.guest_windows.specs.declared.page.Page.{Page}
+use Rattle.guest_windows.specs.Chunks.{page_rows}
 use Rattle.guest_windows.specs.declared.draft_chunk.DraftChunk.{DraftChunk}
 use Rattle.guest_windows.proofs.Places.{chosen}
 
 -- ---- one chunk
 
-pub own_there : (c : DraftChunk) (k q : ℕ) → c.window ≡ k → c.at ≡ q / 4096 → own_page c k q ≡ get_or (own_rows c.pages.items) (q % 4096) None
+pub own_there : (c : DraftChunk) (k q : ℕ) → c.window ≡ k → c.at ≡ q / 4096 → own_page c k q ≡ get_or (chunk_rows c) (q % 4096) None
 own_there c k q window at =
     let here : (c.window == k && c.at == q / 4096) ≡ true = grind (arith, nat_tests, window, at) in
-    ap (λ (b : Bool). cond b (get_or (own_rows c.pages.items) (q % 4096) None) None) here
+    ap (λ (b : Bool). cond b (get_or (chunk_rows c) (q % 4096) None) None) here
 
 key_of : (c : DraftChunk) (k n : ℕ) → (c.window == k && c.at == n) ≡ true → (c.window ≡ k) × (c.at ≡ n)
 key_of c k n same = let p = and_parts (c.window == k) (c.at == n) same in (eqb-true c.window k p.0, eqb-true c.at n p.1)
@@ -26,26 +26,26 @@ own_key : (c : DraftChunk) (k q : ℕ) → is_some (own_page c k q) ≡ true →
 own_key c k q some =
     elim (cases_Bool (c.window == k && c.at == q / 4096)) [
       | inl here ↦ key_of c k (q / 4096) here
-      | inr other ↦ absurd (let e = ap (λ (b : Bool). is_some (cond b (get_or (own_rows c.pages.items) (q % 4096) None) None)) other in cc)
+      | inr other ↦ absurd (let e = ap (λ (b : Bool). is_some (cond b (get_or (chunk_rows c) (q % 4096) None) None)) other in cc)
     ]
 
 -- other pages stay
 own_other : (c d : DraftChunk) (j : ℕ) (row : List ℕ) (k q : ℕ) → d.window ≡ c.window → d.at ≡ c.at
-    → own_rows d.pages.items ≡ set (own_rows c.pages.items) j (Some row) → (c.window ≡ k → c.at ≡ q / 4096 → q % 4096 ≡ j → ⊥)
+    → chunk_rows d ≡ set (chunk_rows c) j (Some row) → (c.window ≡ k → c.at ≡ q / 4096 → q % 4096 ≡ j → ⊥)
     → own_page d k q ≡ own_page c k q
 own_other c d j row k q window at after not =
     let keys : (d.window == k && d.at == q / 4096) ≡ (c.window == k && c.at == q / 4096) =
     ap (λ (x : ℕ). x == k && d.at == q / 4096) window ∙ ap (λ (y : ℕ). c.window == k && y == q / 4096) at in
-    ap (λ (b : Bool). cond b (get_or (own_rows d.pages.items) (q % 4096) None) None) keys
+    ap (λ (b : Bool). cond b (get_or (chunk_rows d) (q % 4096) None) None) keys
     ∙ ap (λ (rs : List (Option (List ℕ))). cond (c.window == k && c.at == q / 4096) (get_or rs (q % 4096) None) None) after
     ∙ elim (cases_Bool (c.window == k && c.at == q / 4096)) [
       | inl here ↦
           let p = key_of c k (q / 4096) here in
           ap (λ (o : Option (List ℕ)). cond (c.window == k && c.at == q / 4096) o None)
-          (get_or-set_other (own_rows c.pages.items) j (q % 4096) (Some row) None (λ is. not p.0 p.1 is))
+          (get_or-set_other (chunk_rows c) j (q % 4096) (Some row) None (λ is. not p.0 p.1 is))
       | inr other ↦
-          ap (λ (b : Bool). cond b (get_or (set (own_rows c.pages.items) j (Some row)) (q % 4096) None) None) other
-          ∙ sym (ap (λ (b : Bool). cond b (get_or (own_rows c.pages.items) (q % 4096) None) None) other)
+          ap (λ (b : Bool). cond b (get_or (set (chunk_rows c) j (Some row)) (q % 4096) None) None) other
+          ∙ sym (ap (λ (b : Bool). cond b (get_or (chunk_rows c) (q % 4096) None) None) other)
     ]
 
 -- ---- all chunks
@@ -79,15 +79,15 @@ of_append (x ∷ xs) c k q =
 
 -- chunk j written in page q
 pub wrote : (cs : List DraftChunk) (k q j : ℕ) (c d : DraftChunk) (row : List ℕ) → Lays cs k q j → c ≡ get_or cs j c
-    → q % 4096 < length (own_rows c.pages.items) → d.window ≡ c.window → d.at ≡ c.at
-    → own_rows d.pages.items ≡ set (own_rows c.pages.items) (q % 4096) (Some row) → Wrote cs (set cs j d) k q row
+    → q % 4096 < length (chunk_rows c) → d.window ≡ c.window → d.at ≡ c.at
+    → chunk_rows d ≡ set (chunk_rows c) (q % 4096) (Some row) → Wrote cs (set cs j d) k q row
 wrote cs k q j c d row lays is there window at after =
     let window_is : c.window ≡ k = ap (λ (x : DraftChunk). x.window) is ∙ lays.window_is c in
     let at_is : c.at ≡ q / 4096 = ap (λ (x : DraftChunk). x.at) is ∙ lays.at_is c in
     record {
       here = of_set_here cs j d k q row lays.inside (λ i e low. lays.before i e low)
           (own_there d k q (window ∙ window_is) (at ∙ at_is) ∙ ap (λ (rs : List (Option (List ℕ))). get_or rs (q % 4096) None) after
-          ∙ get_or-set_same (own_rows c.pages.items) (q % 4096) (Some row) None there);
+          ∙ get_or-set_same (chunk_rows c) (q % 4096) (Some row) None there);
       others = λ n p not. of_set_other cs j d c n p lays.inside
           (own_other c d (q % 4096) row n p window at after
           (λ w a rest. not (sym w ∙ window_is, omega (arith, a, at_is, rest)))
@@ -98,32 +98,18 @@ pub own_elsewhere : (c : DraftChunk) (k q : ℕ) → (c.window ≡ k → c.at �
 own_elsewhere c k q not =
     elim (cases_Bool (c.window == k && c.at == q / 4096)) [
       | inl here ↦ absurd (let p = key_of c k (q / 4096) here in not p.0 p.1)
-      | inr other ↦ ap (λ (b : Bool). cond b (get_or (own_rows c.pages.items) (q % 4096) None) None) other
+      | inr other ↦ ap (λ (b : Bool). cond b (get_or (chunk_rows c) (q % 4096) None) None) other
     ]
 
 pub no_items : {X : Type 0} (xs : List X) → length xs ≡ 0 → xs ≡ []
 no_items [] none = refl
 no_items (x ∷ xs) none = absurd (omega (arith, none))
 
-rows_append : (ps : List (Option Page)) (p : Option Page) → own_rows (ps ++ p ∷ []) ≡ own_rows ps ++ row_of p ∷ []
-rows_append [] p = refl
-rows_append (x ∷ ps) p = ap (λ (rs : List (Option (List ℕ))). row_of x ∷ rs) (rows_append ps p)
-
-pub rows_before : (ps : List (Option Page)) (p : Option Page) (k : ℕ) → k < length ps
-    → get_or (own_rows (ps ++ p ∷ [])) k None ≡ get_or (own_rows ps) k None
-rows_before ps p k lt =
-    ap (λ (rs : List (Option (List ℕ))). get_or rs k None) (rows_append ps p)
-    ∙ get_or_append_left (own_rows ps) (row_of p ∷ []) None k (omega (arith, lt, length-map ps row_of))
-
-pub rows_last : (ps : List (Option Page)) (p : Option Page) → get_or (own_rows (ps ++ p ∷ [])) (length ps) None ≡ row_of p
-rows_last [] p = refl
-rows_last (x ∷ ps) p = rows_last ps p
-
 -- there is a place for each page
-pub has_slot : (c : DraftChunk) (q : ℕ) → q % 4096 < length (own_rows c.pages.items)
-has_slot c q = omega (arith, length-map c.pages.items row_of, c.pages.ok.0, c.sized)
+pub has_slot : (c : DraftChunk) (q : ℕ) → q % 4096 < length (chunk_rows c)
+has_slot c q = omega (arith, length-map c.numbers.items (numbered (page_rows c.laid.items)), c.numbers.ok.0, c.sized)
 
-pub bare_chunk : (c : DraftChunk) → ((k : ℕ) → get_or (own_rows c.pages.items) k None ≡ None) → (k q : ℕ) → own_page c k q ≡ None
+pub bare_chunk : (c : DraftChunk) → ((k : ℕ) → get_or (chunk_rows c) k None ≡ None) → (k q : ℕ) → own_page c k q ≡ None
 bare_chunk c none k q =
     ap (λ (o : Option (List ℕ)). cond (c.window == k && c.at == q / 4096) o None) (none (q % 4096)) ∙ either (c.window == k && c.at == q / 4096) None
   where
@@ -136,7 +122,7 @@ first_none None = refl
 first_none (Some row) = refl
 
 pub slot_is : (cs : List DraftChunk) (k q j : ℕ) (d : DraftChunk) → Lays cs k q j
-    → own_of cs k q ≡ get_or (own_rows (get_or cs j d).pages.items) (q % 4096) None
+    → own_of cs k q ≡ get_or (chunk_rows (get_or cs j d)) (q % 4096) None
 slot_is cs k q j d lays = lays.own d ∙ own_there (get_or cs j d) k q (lays.window_is d) (lays.at_is d)
 
 pub some_chunk : (cs : List DraftChunk) (j : ℕ) → j < length cs → DraftChunk

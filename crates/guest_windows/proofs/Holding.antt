@@ -5,11 +5,12 @@ use Rattle.std.proofs.Common.{inl, inr, refl, sym, ap, subst, ◌∙◌, arith}
 use Rattle.std.specs.Prelude.{◌||◌, slice_index, is_some}
 use Rattle.std.specs.List.{AllByRecursion}
 use Rattle.std.specs.Option.{option_map}
-use Rattle.std.proofs.lemmas.Bool.{cases_Bool}
+use Rattle.std.proofs.lemmas.Bool.{cases_Bool, cases_eq}
+use Rattle.std.proofs.lemmas.List.{get_or_default}
 use Rattle.guest_windows.specs.Windows.{Window, has, inside, read_at, byte_at}
 use Rattle.guest_windows.specs.Zeros.{AreZero, AreZeroFrom, IsZeroIn}
-use Rattle.guest_windows.specs.Fields.{window, windows}
-use Rattle.guest_windows.specs.Pages.{rows, page_row, byte_in}
+use Rattle.guest_windows.specs.Fields.{window, windows, NoneHeldIn}
+use Rattle.guest_windows.specs.Pages.{rows, chunk_row, page_row, byte_in}
 use Rattle.guest_windows.specs.declared.frame.Frame.{Frame}
 use Rattle.guest_windows.proofs.Laws.{is_some-read_at}
 use Rattle.guest_windows.proofs.Frames.{inside_is_low}
@@ -20,6 +21,10 @@ use Rattle.guest_windows.proofs.Fitting.{fits_frame}
 -- a page that isn't held
 pub none_in_page : (rs : List (List (List ℕ))) (page i : ℕ) → page_row rs page ≡ [] → i / 65536 ≡ page → byte_in rs i ≡ 0
 none_in_page rs page i none is = ap (λ (r : List ℕ). get_or r (i % 65536) 0) (ap (λ (k : ℕ). page_row rs k) is ∙ none)
+
+-- the pages of a chunk that isn't
+pub none_in_chunk : (rs : List (List (List ℕ))) (page p : ℕ) → chunk_row rs page ≡ [] → p / 4096 ≡ page / 4096 → page_row rs p ≡ []
+none_in_chunk rs page p none is = ap (λ (c : List (List ℕ)). get_or c (p % 4096) []) (ap (λ (k : ℕ). get_or rs k []) is ∙ none)
 
 -- a window whose bytes before an address lie before those asked for, or in pages that aren't held
 pub zero_in : (f : Frame) (from start page high : ℕ) → start ≡ from - f.base → ((i : ℕ) → i < f.len → f.base + i < high → (i < start) ⊎ (i < 65536 * page))
@@ -73,6 +78,20 @@ has_inside (f ∷ fs) (suc i) a n d lt e = ap (λ (b : Bool). has (window f) a n
     or_true : (b : Bool) → (b || true) ≡ true
     or_true true = refl
     or_true false = refl
+
+-- ---- pages that aren't held
+
+pub none_less : (from low high : ℕ) (f : Frame) → low ≤ high → NoneHeldIn from high f → NoneHeldIn from low f
+none_less from low high f le none i below ge lt = none i below ge (omega (arith, le, lt))
+
+pub one_more : (fs : List Frame) (i j : ℕ) (f d : Frame) (low high : ℕ) → i < length fs → j < i + 1 → f ≡ get_or fs i f
+    → ((k : ℕ) (e : Frame) → k < i → NoneHeldIn low high (get_or fs k e)) → NoneHeldIn low high f → NoneHeldIn low high (get_or fs j d)
+one_more fs i j f d low high lt few is before here =
+    elim (cases_eq j i) [
+      | inl same ↦
+          subst (λ (k : ℕ). NoneHeldIn low high (get_or fs k d)) (sym same) (subst (NoneHeldIn low high) (is ∙ get_or_default fs i f d lt) here)
+      | inr other ↦ before j d (omega (arith, few, other))
+    ]
 
 -- ---- memory
 

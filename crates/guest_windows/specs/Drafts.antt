@@ -1,8 +1,8 @@
 -- Pages that are laid over guest memory: for each window, by its number, and each page of it, the bytes of the page, if it is laid.
 use Rattle.std.specs.Prelude.{◌≡◌, ◌<◌, ℕ, suc, ◌+◌, ◌/◌, ◌%◌, ◌==◌, ◌&&◌, if◌then◌else◌, List, [], ◌∷◌, length, map, Option, Some, None, is_some}
 use Rattle.std.specs.Prelude.{slice_index, slice_index_or}
-use Rattle.std.specs.Option.{option_map}
 use Rattle.guest_windows.specs.Windows.{Window}
+use Rattle.guest_windows.specs.Chunks.{page_rows}
 use Rattle.guest_windows.specs.Pages.{rows, byte_in}
 use Rattle.guest_windows.specs.declared.frame.Frame.{Frame}
 use Rattle.guest_windows.specs.declared.page.Page.{Page}
@@ -10,11 +10,16 @@ use Rattle.guest_windows.specs.declared.draft_chunk.DraftChunk.{DraftChunk}
 
 -- ---- what is laid
 
-abbrev pub row_of : Option Page → Option (List ℕ)
-row_of page = option_map (λ p. p.bytes.items) page
+-- the page with a number, counted from one on: none has the number 0
+abbrev pub numbered : List (List ℕ) → ℕ → Option (List ℕ)
+numbered rows n = slice_index_or (None ∷ map (λ row. Some row) rows) n None
 
-abbrev pub own_rows : List (Option Page) → List (Option (List ℕ))
-own_rows pages = map row_of pages
+-- by the number of each page, and the pages that are laid
+abbrev pub own_rows : List ℕ → List Page → List (Option (List ℕ))
+own_rows numbers laid = map (numbered (page_rows laid)) numbers
+
+abbrev pub chunk_rows : DraftChunk → List (Option (List ℕ))
+chunk_rows c = own_rows c.numbers.items c.laid.items
 
 -- the first of the two, if there is one
 abbrev pub first_of : {X : Type 0} → Option X → Option X → Option X
@@ -28,7 +33,7 @@ pub record Laid : Type 0 where
   pub rows : List (Option (List ℕ))
 
 abbrev pub laid_of : DraftChunk → Laid
-laid_of c = record { window = c.window; at = c.at; rows = own_rows c.pages.items }
+laid_of c = record { window = c.window; at = c.at; rows = chunk_rows c }
 
 abbrev pub own_in : Laid → ℕ → ℕ → Option (List ℕ)
 own_in c window page = if c.window == window && c.at == page / 4096 then slice_index_or c.rows (page % 4096) None else None

@@ -9,14 +9,15 @@ use crate::draft_chunk::DraftChunk;
 use crate::frame::Frame;
 use crate::memory::Memory;
 use crate::page::Page;
+use std::mem::swap;
 
 impl Frame {
     ghost use Rattle.std.specs.Prelude.{◌≡◌, ◌≢◌, ◌*◌, ◌/◌, ◌%◌, ◌<◌, ◌≤◌, ◌^◌, ℕ};
-    ghost use Rattle.std.specs.Prelude.{true, false, length, slice_index_or, None};
-    ghost use Rattle.std.specs.Vec.{vec_len};
+    ghost use Rattle.std.specs.Prelude.{◌+◌, true, false, length, slice_index_or, None, []};
     ghost use Rattle.guest_windows.specs.Fields.{window};
     ghost use Rattle.guest_windows.specs.Pages.{rows, byte_in, chunk_row, page_row};
-    ghost use Rattle.guest_windows.specs.Drafts.{own_page, own_rows, row_of, byte_over};
+    ghost use Rattle.guest_windows.specs.Chunks.{page_rows, IsNumbering};
+    ghost use Rattle.guest_windows.specs.Drafts.{own_page, own_rows, numbered, byte_over};
     ghost use Rattle.guest_windows.specs.Drafts.{laid_window};
 
     // Whether the chunk with this number has a byte of it.
@@ -36,55 +37,60 @@ impl Frame {
         }
         let first = chunk.at * PAGES;
         let _ = self.hold_chunk_with(first, chunk.room);
-        self.adopt_pages(first, chunk.pages);
+        let mut laid = chunk.laid;
+        self.adopt_pages(first, &chunk.numbers, &mut laid);
     }
 
-    // Takes the pages of a chunk that is held in the place of its own.
-    fn adopt_pages(&mut self, first: u64, pages: Vec<Option<Page>>)
+    // Takes the pages of a chunk that is held in the place of its own, which it leaves there.
+    fn adopt_pages(&mut self, first: u64, numbers: &[u16], laid: &mut [Page])
         requires inside { 65536 * first < self.old.len }
         requires whole { first % 4096 ≡ 0 }
-        requires count { vec_len pages ≡ 4096 }
+        requires count { length numbers.now ≡ 4096 }
+        requires numbered { IsNumbering numbers.now (length laid.old) }
         requires held { length (chunk_row (rows self.old.chunks.items) first) ≡ 4096 }
         ensures here { (i : ℕ) → i < self.old.len → i / 65536 / 4096 ≡ first / 4096
             → byte_in (rows self.new.chunks.items) i
-            ≡ byte_over (slice_index_or (own_rows pages.items) (i / 65536 % 4096) None)
+            ≡ byte_over (slice_index_or (own_rows numbers.now laid.old) (i / 65536 % 4096) None)
             (i % 65536) (byte_in (rows self.old.chunks.items) i) }
         ensures others { (i : ℕ) → i / 65536 / 4096 ≢ first / 4096
             → byte_in (rows self.new.chunks.items) i ≡ byte_in (rows self.old.chunks.items) i }
         ensures base { self.new.base ≡ self.old.base }
         ensures len { self.new.len ≡ self.old.len }
     {
-        let mut pages = pages;
-        while let Some(page) = pages.pop() {
-            self.adopt_page(first + pages.len() as u64, page);
+        for (at, number) in numbers.iter().enumerate() {
+            self.adopt_page(first + at as u64, *number, laid);
         }
     }
 
-    // Takes a page of a chunk that is held in the place of its own, if there is one.
-    fn adopt_page(&mut self, page: u64, fresh: Option<Page>)
+    // Takes the page with a number in the place of its own, in a chunk that is held: where there
+    // is such a page, and the window has a byte of it.
+    fn adopt_page(&mut self, page: u64, number: u16, laid: &mut [Page])
         requires low { page < 2 ^ 40 }
+        requires number { number ≤ length laid.old }
         requires held { length (chunk_row (rows self.old.chunks.items) page) ≡ 4096 }
         ensures here { (i : ℕ) → i < self.old.len → i / 65536 ≡ page
             → byte_in (rows self.new.chunks.items) i
-            ≡ byte_over (row_of fresh) (i % 65536) (byte_in (rows self.old.chunks.items) i) }
+            ≡ byte_over (numbered (page_rows laid.old) number) (i % 65536)
+            (byte_in (rows self.old.chunks.items) i) }
         ensures others { (i : ℕ) → i / 65536 ≢ page
             → byte_in (rows self.new.chunks.items) i ≡ byte_in (rows self.old.chunks.items) i }
+        ensures left { (k : ℕ) → number ≢ k + 1 → slice_index_or (page_rows laid.new) k []
+            ≡ slice_index_or (page_rows laid.old) k [] }
+        ensures count { length laid.new ≡ length laid.old }
         ensures chunk { length (chunk_row (rows self.new.chunks.items) page) ≡ 4096 }
         ensures base { self.new.base ≡ self.old.base }
         ensures len { self.new.len ≡ self.old.len }
     {
-        if let Some(fresh) = fresh
-            && 65_536 * page < self.len
-        {
-            self.replace_page(page, fresh);
+        if number > 0 && 65_536 * page < self.len {
+            self.exchange_page(page, &mut laid[usize::from(number) - 1]);
         }
     }
 
-    // Puts a page in the place of another of a chunk that is held.
-    fn replace_page(&mut self, page: u64, fresh: Page)
+    // Exchanges a page of a chunk that is held with another.
+    fn exchange_page(&mut self, page: u64, fresh: &mut Page)
         requires inside { 65536 * page < self.old.len }
         requires held { length (chunk_row (rows self.old.chunks.items) page) ≡ 4096 }
-        ensures here { page_row (rows self.new.chunks.items) page ≡ fresh.bytes.items }
+        ensures here { page_row (rows self.new.chunks.items) page ≡ fresh.old.bytes.items }
         ensures others { (p : ℕ) → p ≢ page → page_row (rows self.new.chunks.items) p
             ≡ page_row (rows self.old.chunks.items) p }
         ensures chunk { length (chunk_row (rows self.new.chunks.items) page) ≡ 4096 }
@@ -92,7 +98,7 @@ impl Frame {
         ensures len { self.new.len ≡ self.old.len }
     {
         let chunk = &mut self.chunks[(page / PAGES) as usize];
-        chunk.pages[(page % PAGES) as usize] = fresh;
+        swap(&mut chunk.pages[(page % PAGES) as usize], fresh);
     }
 }
 

@@ -6,7 +6,7 @@ ghost use Rattle.guest_windows.specs.Windows.{has, put};
 ghost use Rattle.guest_windows.specs.Fields.{window as window_of};
 ghost use Rattle.guest_windows.specs.Chunks.{page_rows};
 ghost use Rattle.guest_windows.specs.Drafts.{own_of, byte_over, byte_laid, laid_window, own_place};
-ghost use Rattle.guest_windows.specs.Drafts.{key_place, own_rows, Lays, Wrote};
+ghost use Rattle.guest_windows.specs.Drafts.{key_place, chunk_rows, Lays, Wrote};
 ghost use Rattle.guest_windows.specs.declared.draft_chunk.DraftChunk.{DraftChunk};
 
 use crate::chunk::{Chunk, PAGES};
@@ -321,7 +321,7 @@ fn clear_page(
     ensures { OnOk result (Wrote chunks.old.items chunks.new.items window page []) }
 {
     let place = lay_chunk(chunks, alloc, window, page)?;
-    chunks[place].clear(alloc, (page % PAGES) as usize);
+    chunks[place].clear(alloc, (page % PAGES) as usize)?;
     Ok(())
 }
 
@@ -343,7 +343,7 @@ fn is_held_at(chunks: &[DraftChunk], at: usize, page: usize) -> bool
     requires at { at < length chunks.now }
     requires page { page < 4096 }
     ensures { result ≡ false → (c : DraftChunk) (row : List ℕ)
-        → slice_index_or (own_rows (slice_index_or chunks.now at c).pages.items) page None
+        → slice_index_or (chunk_rows (slice_index_or chunks.now at c)) page None
         ≡ Some row → row ≡ [] }
 {
     chunks[at].is_held(page)

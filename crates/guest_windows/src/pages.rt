@@ -4,7 +4,7 @@ ghost use Rattle.std.specs.Prelude.{◌-◌, ◌++◌, length, take, drop, repli
 ghost use Rattle.std.specs.List.{AllByRecursion};
 ghost use Rattle.guest_windows.specs.Windows.{inside};
 ghost use Rattle.guest_windows.specs.Zeros.{IsZeroIn};
-ghost use Rattle.guest_windows.specs.Fields.{windows};
+ghost use Rattle.guest_windows.specs.Fields.{windows, IsHeld, NoneHeld};
 ghost use Rattle.std.specs.Vec.{vec_len};
 ghost use Rattle.guest_windows.specs.Windows.{has, put};
 ghost use Rattle.guest_windows.specs.Fields.{window};
@@ -49,12 +49,12 @@ impl Page {
 
 impl Frame {
     ghost use Rattle.std.specs.Prelude.{◌≡◌, ◌≢◌, ◌⊎◌, ◌+◌, ◌-◌, ◌*◌, ◌/◌, ◌%◌, ◌<◌, ◌≤◌, ◌^◌, ℕ};
-    ghost use Rattle.std.specs.Prelude.{true, false, replicate};
+    ghost use Rattle.std.specs.Prelude.{true, false, [], length, replicate};
     ghost use Rattle.std.specs.Vec.{vec_len};
     ghost use Rattle.guest_windows.specs.Windows.{has, put};
     ghost use Rattle.guest_windows.specs.Zeros.{IsZeroIn};
-    ghost use Rattle.guest_windows.specs.Fields.{window};
-    ghost use Rattle.guest_windows.specs.Pages.{rows, byte_in, chunk_row};
+    ghost use Rattle.guest_windows.specs.Fields.{window, IsHeldIn, NoneHeldIn};
+    ghost use Rattle.guest_windows.specs.Pages.{rows, byte_in, chunk_row, page_row};
 
     // Makes the bytes at an address zero, and gives back the pages that lie wholly inside.
     fn forget(&mut self, alloc: Global, addr: Addr, len: u64)
@@ -160,6 +160,10 @@ impl Frame {
             → byte_in (rows self.now.chunks.items) i ≡ 0 }
         ensures bound { 65536 * result < self.now.len + 65536 }
         ensures from { (from ≤ result) ⊎ (self.now.len ≤ 65536 * result) }
+        ensures held { 65536 * result < self.now.len
+            → length (page_row (rows self.now.chunks.items) result) ≡ 65536 }
+        ensures skipped { (page : ℕ) → from ≤ page → page < result
+            → page_row (rows self.now.chunks.items) page ≡ [] }
     {
         let count = self.len.div_ceil(65_536);
         let mut page = from;
@@ -179,6 +183,10 @@ impl Frame {
         ensures order { page ≤ result }
         ensures zero { (i : ℕ) → page ≤ i / 65536 → i / 65536 < result
             → byte_in (rows self.now.chunks.items) i ≡ 0 }
+        ensures held { result ≡ page
+            → length (page_row (rows self.now.chunks.items) page) ≡ 65536 }
+        ensures skipped { (p : ℕ) → page ≤ p → p < result
+            → page_row (rows self.now.chunks.items) p ≡ [] }
     {
         let chunk = self.chunk_of(page);
         if !chunk.is_held() {
@@ -198,6 +206,8 @@ impl Frame {
         ensures part { 0 < result.1 → has (window self.now) result.0.0 result.1 ≡ true }
         ensures few { result.1 ≤ 65536 }
         ensures none { result.1 ≡ 0 → result.0.0 ≡ 2 ^ 52 }
+        ensures held { 0 < result.1 → IsHeldIn result.0.0 self.now }
+        ensures skipped { NoneHeldIn from.0 result.0.0 self.now }
     {
         let start = from.0.saturating_sub(self.base);
         let page = self.next_held(start / 65_536);
@@ -260,6 +270,8 @@ fn first_page(frames: &[Frame], from: Addr) -> (Addr, u64)
     ensures part { 0 < result.1 → inside (windows frames.now) result.0.0 result.1 ≡ true }
     ensures few { result.1 ≤ 65536 }
     ensures none { result.1 ≡ 0 → result.0.0 ≡ 2 ^ 52 }
+    ensures held { 0 < result.1 → IsHeld frames.now result.0.0 }
+    ensures skipped { NoneHeld frames.now from.0 result.0.0 }
 {
     let mut first = (Addr(END), 0);
     for frame in frames {

@@ -1,6 +1,6 @@
 -- Bit 0 of each of 64 bytes, as a mask, and of all bytes, 64 to a word.
 use Rattle.std.proofs.Common.{◌≡◌, ◌≢◌, ℕ, suc, zero, ◌+◌, ◌-◌, ◌*◌, ◌/◌, ◌%◌, ◌^◌, ◌<◌, Bool, true, false, cond, List, [], map, length, get_or, set, take}
-use Rattle.std.proofs.Common.{drop, bit_and, eqb, refl, sym, ap, ◌∙◌, inl, inr, arith}
+use Rattle.std.proofs.Common.{drop, bit_and, eqb, ltb, refl, sym, ap, ◌∙◌, inl, inr, arith}
 use Rattle.std.specs.Prelude.{replicate}
 use Rattle.std.specs.Simd.{first_chunks}
 use Rattle.std.specs.Int.{w8}
@@ -30,7 +30,7 @@ bit_of-enabled xs long k lt =
     ∙ get_or-map (λ x. eqb x 1) (map (λ x. bit_and x 1) xs) k 0 false (omega arith)
     ∙ ap (λ n. eqb n 1) (get_or-map (λ x. bit_and x 1) xs k 0 0 (omega arith) ∙ and_mask (get_or xs k 0) 1 ∙ sym (bit_at_lowest (get_or xs k 0))))
 
-get_or-first_chunks : (n k : ℕ) (xs : List ℕ) (i : ℕ) (d : List ℕ) → i < k → get_or (first_chunks n k xs) i d ≡ take n (drop (n * i) xs)
+pub get_or-first_chunks : (n k : ℕ) (xs : List ℕ) (i : ℕ) (d : List ℕ) → i < k → get_or (first_chunks n k xs) i d ≡ take n (drop (n * i) xs)
 get_or-first_chunks n zero xs i d lt = absurd (omega arith)
 get_or-first_chunks n (suc k) xs zero d lt = let none : n * 0 ≡ 0 = omega arith in rw none refl
 get_or-first_chunks n (suc k) xs (suc i) d lt =
@@ -59,3 +59,33 @@ enabled_more bytes chunks words i w split lt there before here k below =
           ∙ ap (λ n. bit_of n 0) (ap (λ (xs : List ℕ). get_or xs (k % 64) 0) chunk ∙ get_or-take 64 (drop (64 * i) bytes) (k % 64) 0 within
           ∙ get_or-drop (64 * i) bytes (k % 64) 0 ∙ ap (λ n. get_or bytes n 0) place)
     ]
+
+-- the bytes of a chunk
+pub chunk_bytes :
+    (bytes : List ℕ) (chunks : List (List ℕ)) (i k : ℕ) → chunks ≡ first_chunks 64 (length bytes / 64) bytes → i < length bytes / 64 → k < 64
+    → get_or (get_or chunks i []) k 0 ≡ get_or bytes (64 * i + k) 0
+chunk_bytes bytes chunks i k split lt within =
+    let chunk : get_or chunks i [] ≡ take 64 (drop (64 * i) bytes) = ap (λ (xs : List (List ℕ)). get_or xs i []) split
+    ∙ get_or-first_chunks 64 (length bytes / 64) bytes i [] lt in
+    ap (λ (xs : List ℕ). get_or xs k 0) chunk ∙ get_or-take 64 (drop (64 * i) bytes) k 0 within ∙ get_or-drop (64 * i) bytes k 0
+
+-- ---- which bytes are below a limit
+
+pub bit_of-below :
+    (xs : List ℕ) (limit k : ℕ) → length xs ≡ 64 → k < 64
+    → bit_of (mask_l (map (top 7) (zip2 (λ a b. cond (ltb a b) (2 ^ 8 - 1) 0) xs (replicate 64 limit))) % 2 ^ 64) k ≡ ltb (get_or xs k 0) limit
+bit_of-below xs limit k long lt =
+    rw (bitmask_splat w8 ltb xs 64 limit long (omega arith))
+    (ap (λ n. eqb n 1) (bit_mask_l (map (λ x. ltb x limit) xs) k) ∙ one_of (get_or (map (λ x. ltb x limit) xs) k false)
+    ∙ get_or-map (λ x. ltb x limit) xs k 0 false (omega (arith, long)))
+
+pub bit_of-priority :
+    (xs : List ℕ) (limit k : ℕ) → length xs ≡ 64 → k < 64
+    → bit_of (mask_l (map (top 7) (zip2 (λ a b. cond (ltb a b) (2 ^ 8 - 1) 0) (zip2 bit_and xs (replicate 64 252)) (replicate 64 limit))) % 2 ^ 64) k
+    ≡ ltb (bit_and (get_or xs k 0) 252) limit
+bit_of-priority xs limit k long lt =
+    let priorities : zip2 bit_and xs (replicate 64 252) ≡ map (λ x. bit_and x 252) xs = zip2_splat bit_and xs 64 252 long in
+    let long' : length (map (λ x. bit_and x 252) xs) ≡ 64 = length-map xs (λ x. bit_and x 252) ∙ long in
+    rw priorities
+    (bit_of-below (map (λ x. bit_and x 252) xs) limit k long' lt
+    ∙ ap (λ n. ltb n limit) (get_or-map (λ x. bit_and x 252) xs k 0 0 (omega (arith, long))))

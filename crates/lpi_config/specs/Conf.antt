@@ -1,5 +1,5 @@
 -- The configuration part of a redistributor in hand: where its tables stand, and what it has read of the configuration table.
-use Rattle.std.specs.Prelude.{◌≡◌, ◌≤◌, ℕ, Bool, true, false, if◌then◌else◌, Option, Some, None, List, unwrap_or, MatchOption, refl}
+use Rattle.std.specs.Prelude.{◌≡◌, ◌≤◌, ℕ, Bool, true, false, if◌then◌else◌, Option, List, unwrap_or, MatchOption, refl}
 use Rattle.std.specs.Coded.{Coded, code_by, coded×}
 use Rattle.guest_windows.specs.Windows.{Window, read_at}
 use Rattle.gicr_regs.specs.Redistributors.{ConfState}

@@ -4,6 +4,7 @@ use Rattle.std.specs.Coded.{Coded, code_by, coded×, coded_list, coded_ℕ}
 use Rattle.its_types.specs.Bits.{bit_of}
 use Rattle.its_types.specs.Ranges.{lpi_count}
 use Rattle.its_types.specs.Bitmap.{word_bit}
+use Rattle.lpi_config.specs.Bounds.{AreOfBytes}
 
 pub record Configuration : Type 0 where
   -- how many bits the INTID of an LPI has
@@ -24,9 +25,11 @@ abbrev pub AreEnableBits : List ℕ → List ℕ → Type 0
 AreEnableBits words bytes = (i : ℕ) → i < length bytes → word_bit words i ≡ bit_of (slice_index bytes i) 0
 
 -- what holds of the fields of each configuration
-pub record IsKept (lpi_bits : ℕ) (bytes enabled : List ℕ) : Type 0 where
+pub record IsKept (lpi_bits : ℕ) (bytes enabled least : List ℕ) : Type 0 where
   pub low : 14 ≤ lpi_bits
   pub high : lpi_bits ≤ 20
   pub size : length bytes ≡ lpi_count lpi_bits
   pub words : 64 * length enabled ≡ length bytes
   pub in_step : AreEnableBits enabled bytes
+  pub least_size : 64 * length least ≡ length bytes
+  pub bounds : AreOfBytes least bytes

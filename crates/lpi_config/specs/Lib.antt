@@ -1,2 +1,4 @@
+pub mod Searches
+pub mod Bounds
 pub mod Configurations
 pub mod Conf

@@ -1,25 +1,26 @@
 -- The first by priority of the bits looked at, and of all.
-use Rattle.std.proofs.Common.{◌≡◌, ◌≢◌, ℕ, suc, zero, ◌+◌, ◌-◌, ◌*◌, ◌/◌, ◌<◌, ◌≤◌, ◌^◌, Bool, true, false, cond, List, length, get_or, Some, None, bit_and}
-use Rattle.std.proofs.Common.{refl}
+use Rattle.std.proofs.Common.{◌≡◌, ◌≢◌, ℕ, suc, zero, ◌+◌, ◌-◌, ◌*◌, ◌/◌, ◌%◌, ◌<◌, ◌≤◌, ◌^◌, Bool, true, false, cond, List, length, get_or, drop, Some}
+use Rattle.std.proofs.Common.{None, bit_and, refl}
 use Rattle.std.proofs.Common.{sym, ap, subst, ◌∙◌, inl, inr, arith}
-use Rattle.std.specs.Prelude.{◌&&◌, nat_lt, MatchOption, Option, filter}
-use Rattle.std.specs.List.{range_with_len}
-use Rattle.std.proofs.lemmas.List.Sums.{length-filter}
+use Rattle.std.specs.Prelude.{◌&&◌, nat_lt, MatchOption, Option}
 use Rattle.std.specs.Option.{option_map}
-use Rattle.std.proofs.lemmas.Bool.{cases_eq, cases_lt, cases_Bool, both_ways, and_parts, lt-ltb, le-ltb}
+use Rattle.std.proofs.lemmas.Bool.{cases_eq, cases_lt, cases_Bool, both_ways, and_parts, lt-ltb, le-ltb, ltb-true, ltb-false, cond-true}
+use Rattle.std.proofs.lemmas.Nat.Bits.{and_high}
 use Rattle.its_types.specs.Bits.{bit_of}
 use Rattle.its_types.specs.Bitmap.{word_bit}
 use Rattle.its_types.specs.Ranges.{lpi_count}
-use Rattle.its_types.specs.Lpis.{is_enabled, priority_of, is_unmasked, first_of, first_by_priority}
+use Rattle.its_types.specs.Lpis.{config_byte, is_enabled, priority_of, is_unmasked, first_of, first_by_priority}
+use Rattle.lpi_config.specs.Bounds.{rank, least_priority}
+use Rattle.lpi_config.proofs.LeastIn.{least_below}
 use Rattle.lpi_pending.specs.Searches.{NoneIn, IsFirstIn, count_in}
-use Rattle.lpi_pending.specs.Summaries.{is_used, is_ready}
-use Rattle.lpi_pending.specs.Priorities.{IsBest, IsFound}
-use Rattle.lpi_pending.specs.PendingSets.{lpi_bit, lpis_of, busy_words, summary_words, ready_lpis}
+use Rattle.lpi_pending.specs.Summaries.{is_nonzero, is_used, is_ready, IsSummary}
+use Rattle.lpi_pending.specs.Priorities.{IsBest, IsFound, NoneBelow, IsNextGroup, is_left, is_left_of_group, priorities_before}
+use Rattle.lpi_pending.specs.PendingSets.{lpi_bit, lpis_of, busy_words, summary_words}
 use Rattle.lpi_pending.specs.declared.best.Best.{Best}
 use Rattle.lpi_pending.proofs.Firsts.{used_words}
-use Rattle.lpi_pending.proofs.Counts.{count_in-add, count_in-some, count_in-same, count_in-shift}
-use Rattle.lpi_pending.proofs.Searching.{ready_bit, none_in_unused}
-use Rattle.lpi_pending.proofs.Sets.{IsWithin, those, those-filter, within-first, within-next, within-later}
+use Rattle.lpi_pending.proofs.Counts.{count_in-add, count_in-some}
+use Rattle.lpi_pending.proofs.Searching.{ready_bit, none_in_unused, unused_groups, used_so_far, used_with_group}
+use Rattle.lpi_pending.proofs.Sets.{IsWithin, those, within-first, within-next, within-later}
 
 -- ---- bit by bit
 
@@ -33,16 +34,24 @@ found_past words config mask n m priority None P le found = found
 found_past words config mask n m priority (Some x) P le found =
     record { within = omega (arith, found.within); ready = found.ready; same = found.same; unmasked = found.unmasked; before = found.before }
 
--- bits that aren't ready
-pub best_past : (words config : List ℕ) (mask n m : ℕ) (best : Best) → n ≤ m → NoneIn (is_ready words config) n m → IsBest words config mask n best
+-- bits that don't come before what was found
+pub best_past : (words config : List ℕ) (mask n m : ℕ) (best : Best) → n ≤ m → NoneBelow words config best.limit n m → IsBest words config mask n best
     → IsBest words config mask m best
 best_past words config mask n m best le none is = record {
   least = λ y below ready. elim (cases_lt y n) [
     | inl lt ↦ is.least y lt ready
-    | inr past ↦ absurd (both_ways (is_ready words config y) (none y past below) ready)
+    | inr past ↦ none y past below ready
   ];
   found = found_past words config mask n m best.limit best.at (best.limit ≡ mask) le is.found;
 }
+
+pub none_below : (words config : List ℕ) (limit n m : ℕ) → NoneIn (is_ready words config) n m → NoneBelow words config limit n m
+none_below words config limit n m none y from below ready = absurd (both_ways (is_ready words config y) (none y from below) ready)
+
+pub none_below_and : (words config : List ℕ) (limit a b c : ℕ) → NoneBelow words config limit a b → NoneBelow words config limit b c
+    → NoneBelow words config limit a c
+none_below_and words config limit a b c first second y from below =
+    elim (cases_lt y b) [ inl lt ↦ first y from lt | inr past ↦ second y past below ]
 
 -- below the mask, whatever was found
 limit_below : (words config : List ℕ) (mask n : ℕ) (at : Option ℕ) (limit : ℕ) → MatchOption at (limit ≡ mask) (λ x. IsFound words config mask n limit x)
@@ -53,111 +62,87 @@ limit_below words config mask n (Some x) limit found = omega (arith, found.unmas
 at_or_before : (y n : ℕ) → y < n + 1 → y ≢ n → y < n
 at_or_before y n lt ne = omega (arith, ne)
 
--- a bit that is ready
-pub best_with : (words config : List ℕ) (mask n : ℕ) (best next : Best) → is_ready words config n ≡ true
-    → next ≡ cond (nat_lt (priority_of config (8192 + n)) best.limit) (record { at = Some n; limit = priority_of config (8192 + n) }) best
-    → IsBest words config mask n best → IsBest words config mask (n + 1) next
-best_with words config mask n best next ready e is =
-    let priority : ℕ = priority_of config (8192 + n) in
-    elim (cases_lt (priority_of config (8192 + n)) best.limit) [
-      | inl lt ↦
-          let taken : next ≡ record { at = Some n; limit = priority_of config (8192 + n) } =
-          e ∙ ap (λ b. cond b (record { at = Some n; limit = priority_of config (8192 + n) }) best) (lt-ltb _ _ lt) in
-          let masked = limit_below words config mask n best.at best.limit is.found in
-          rw taken (record {
-            least = λ y below r. elim (cases_eq y n) [
-              | inl same ↦ rw same (omega arith)
-              | inr ne ↦ let le = is.least y (at_or_before y n below ne) r in omega (arith, le, lt)
-            ];
-            found = record {
-              within = omega arith;
-              ready = ready;
-              same = refl;
-              unmasked = omega (arith, lt, masked);
-              before = λ y below r. let le = is.least y below r in omega (arith, le, lt);
-            };
-          })
-      | inr le ↦
-          let left : next ≡ best = e ∙ ap (λ b. cond b (record { at = Some n; limit = priority_of config (8192 + n) }) best) (le-ltb _ _ le) in
-          rw left (record {
-            least = λ y below r. elim (cases_eq y n) [
-              | inl same ↦ rw same le
-              | inr ne ↦ is.least y (at_or_before y n below ne) r
-            ];
-            found = found_past words config mask n (n + 1) best.limit best.at (best.limit ≡ mask) (omega arith) is.found;
-          })
-    ]
+-- a bit that is ready, and comes before what was found
+best_with : (words config : List ℕ) (mask n : ℕ) (best : Best) → is_ready words config n ≡ true → priority_of config (8192 + n) < best.limit
+    → IsBest words config mask n best → IsBest words config mask (n + 1) (record { at = Some n; limit = priority_of config (8192 + n) })
+best_with words config mask n best ready lt is =
+    let masked = limit_below words config mask n best.at best.limit is.found in
+    record {
+      least = λ y below r. elim (cases_eq y n) [
+        | inl same ↦ rw same (omega arith)
+        | inr ne ↦ let le = is.least y (at_or_before y n below ne) r in omega (arith, le, lt)
+      ];
+      found = record {
+        within = omega arith;
+        ready = ready;
+        same = refl;
+        unmasked = omega (arith, lt, masked);
+        before = λ y below r. let le = is.least y below r in omega (arith, le, lt);
+      };
+    }
+
+-- there are no more priorities than multiples of 4
+pub priorities_less : (config : List ℕ) (x limit : ℕ) → priority_of config x < limit
+    → priorities_before (priority_of config x) + 1 ≤ priorities_before limit
+priorities_less config x limit lt =
+    let fours : priority_of config x ≡ get_or config (x - 8192) 0 / 4 % 64 * 4 = and_high (get_or config (x - 8192) 0) 6 2 in
+    omega (arith, fours, lt)
 
 -- ---- a word
 
 -- bit by bit the word that is left of a word and of its enabled LPIs
-abbrev ReadyWord : List ℕ → List ℕ → ℕ → ℕ → Type 0
+abbrev pub ReadyWord : List ℕ → List ℕ → ℕ → ℕ → Type 0
 ReadyWord words config j ready = (i : ℕ) → i < 64 → is_ready words config (64 * j + i) ≡ bit_of ready i
 
 pub ready_word : (words config : List ℕ) (j enabled : ℕ) → ((i : ℕ) → i < 64 → bit_of enabled i ≡ is_enabled config (8192 + 64 * j + i))
     → ReadyWord words config j (bit_and (get_or words j 0) enabled)
 ready_word words config j enabled bits i lt = ready_bit words config j enabled i lt (bits i lt)
 
-none_ready : (words config : List ℕ) (j ready from to : ℕ) → to ≤ 64 → ReadyWord words config j ready → NoneIn (bit_of ready) from to
-    → NoneIn (is_ready words config) (64 * j + from) (64 * j + to)
-none_ready words config j ready from to le bits none y low high =
+second_false : (a b : Bool) → a ≡ true → (a && b) ≡ false → b ≡ false
+second_false true b is both = both
+second_false false b is both = absurd (both_ways false refl is)
+
+none_left : (words config : List ℕ) (limit j ready from to : ℕ) → to ≤ 64 → ReadyWord words config j ready → NoneIn (is_left config limit j ready) from to
+    → NoneBelow words config limit (64 * j + from) (64 * j + to)
+none_left words config limit j ready from to le bits none y low high r =
     let split : 64 * j + (y - 64 * j) ≡ y = omega arith in
-    ap (is_ready words config) (sym split) ∙ bits (y - 64 * j) (omega arith) ∙ none (y - 64 * j) (omega arith) (omega arith)
+    let place : 8192 + 64 * j + (y - 64 * j) ≡ 8192 + y = omega arith in
+    let within : y - 64 * j < 64 = omega arith in
+    let is : bit_of ready (y - 64 * j) ≡ true = sym (bits (y - 64 * j) within) ∙ ap (is_ready words config) split ∙ r in
+    let not_below : nat_lt (priority_of config (8192 + 64 * j + (y - 64 * j))) limit ≡ false =
+    second_false (bit_of ready (y - 64 * j)) (nat_lt (priority_of config (8192 + 64 * j + (y - 64 * j))) limit) is
+    (none (y - 64 * j) (omega arith) (omega arith)) in
+    let same : priority_of config (8192 + 64 * j + (y - 64 * j)) ≡ priority_of config (8192 + y) = ap (priority_of config) place in
+    let le' = ltb-false (priority_of config (8192 + 64 * j + (y - 64 * j))) limit not_below in
+    omega (arith, le', same)
 
-pub best_next : (words config : List ℕ) (mask j ready from bit : ℕ) (best next : Best) → ReadyWord words config j ready
-    → IsFirstIn (bit_of ready) from 64 bit
-    → next ≡ cond (nat_lt (priority_of config (8192 + (64 * j + bit))) best.limit)
-    (record { at = Some (64 * j + bit); limit = priority_of config (8192 + (64 * j + bit)) }) best
-    → IsBest words config mask (64 * j + from) best → IsBest words config mask (64 * j + (bit + 1)) next
-best_next words config mask j ready from bit best next bits first e is =
+pub left_lt : (config : List ℕ) (limit j ready bit : ℕ) → is_left config limit j ready bit ≡ true → priority_of config (8192 + (64 * j + bit)) < limit
+left_lt config limit j ready bit met =
+    let place : 8192 + 64 * j + bit ≡ 8192 + (64 * j + bit) = omega arith in
+    ltb-true (priority_of config (8192 + (64 * j + bit))) limit
+    (ap (λ x. nat_lt (priority_of config x) limit) (sym place)
+    ∙ (and_parts (bit_of ready bit) (nat_lt (priority_of config (8192 + 64 * j + bit)) limit) met).1)
+
+-- the lowest bit that is left
+pub best_next : (words config : List ℕ) (mask j ready from bit : ℕ) (best : Best) → ReadyWord words config j ready
+    → IsFirstIn (is_left config best.limit j ready) from 64 bit → IsBest words config mask (64 * j + from) best
+    → IsBest words config mask (64 * j + (bit + 1)) (record { at = Some (64 * j + bit); limit = priority_of config (8192 + (64 * j + bit)) })
+best_next words config mask j ready from bit best bits first is =
+    let lt = first.below in
     let place : 64 * j + bit + 1 ≡ 64 * j + (bit + 1) = omega arith in
-    subst (λ (n : ℕ). IsBest words config mask n next) place
-    (best_with words config mask (64 * j + bit) best next (bits bit first.below ∙ first.met) e
+    let met = and_parts (bit_of ready bit) (nat_lt (priority_of config (8192 + 64 * j + bit)) best.limit) first.met in
+    subst (λ (n : ℕ). IsBest words config mask n (record { at = Some (64 * j + bit); limit = priority_of config (8192 + (64 * j + bit)) })) place
+    (best_with words config mask (64 * j + bit) best (bits bit lt ∙ met.0) (left_lt config best.limit j ready bit first.met)
     (best_past words config mask (64 * j + from) (64 * j + bit) best (omega (arith, first.from))
-    (none_ready words config j ready from bit (omega (arith, first.below)) bits first.before) is))
+    (none_left words config best.limit j ready from bit (omega (arith, lt)) bits first.before) is))
 
-pub best_end : (words config : List ℕ) (mask j ready from : ℕ) (best : Best) → from ≤ 64 → ReadyWord words config j ready → NoneIn (bit_of ready) from 64
-    → IsBest words config mask (64 * j + from) best → IsBest words config mask (64 * (j + 1)) best
+pub best_end : (words config : List ℕ) (mask j ready from : ℕ) (best : Best) → from ≤ 64 → ReadyWord words config j ready
+    → NoneIn (is_left config best.limit j ready) from 64 → IsBest words config mask (64 * j + from) best → IsBest words config mask (64 * (j + 1)) best
 best_end words config mask j ready from best le bits none is =
     let place : 64 * j + 64 ≡ 64 * (j + 1) = omega arith in
     subst (λ (n : ℕ). IsBest words config mask n best) place
-    (best_past words config mask (64 * j + from) (64 * j + 64) best (omega arith) (none_ready words config j ready from 64 (omega arith) bits none) is)
-
-pub counted_next : (words config : List ℕ) (j ready from bit start steps : ℕ) → ReadyWord words config j ready → IsFirstIn (bit_of ready) from 64 bit
-    → steps ≤ start + count_in (is_ready words config) (64 * j) from → steps + 1 ≤ start + count_in (is_ready words config) (64 * j) (bit + 1)
-counted_next words config j ready from bit start steps bits first cost =
-    let split : from + (bit + 1 - from) ≡ bit + 1 = omega (arith, first.from) in
-    let sum : count_in (is_ready words config) (64 * j) (bit + 1) ≡ count_in (is_ready words config) (64 * j) from
-    + count_in (is_ready words config) (64 * j + from) (bit + 1 - from) =
-    ap (count_in (is_ready words config) (64 * j)) (sym split) ∙ count_in-add (is_ready words config) (64 * j) from (bit + 1 - from) in
-    let one : 0 < count_in (is_ready words config) (64 * j + from) (bit + 1 - from) =
-    count_in-some (is_ready words config) (64 * j + from) (bit + 1 - from) (64 * j + bit)
-    (record { from = omega (arith, first.from); below = omega (arith, first.from) }) (bits bit first.below ∙ first.met) in
-    omega (arith, sum, one, cost)
-
--- no more than the whole word has
-pub counted_within : (words config : List ℕ) (j from start steps : ℕ) → from ≤ 64 → steps ≤ start + count_in (is_ready words config) (64 * j) from
-    → steps ≤ start + count_in (is_ready words config) (64 * j) 64
-counted_within words config j from start steps le cost =
-    let split : from + (64 - from) ≡ 64 = omega arith in
-    let sum : count_in (is_ready words config) (64 * j) 64 ≡ count_in (is_ready words config) (64 * j) from
-    + count_in (is_ready words config) (64 * j + from) (64 - from) =
-    ap (count_in (is_ready words config) (64 * j)) (sym split) ∙ count_in-add (is_ready words config) (64 * j) from (64 - from) in
-    omega (arith, sum, cost)
-
--- ---- all words
-
--- words of zeros have no ready bit
-none_between : (words config : List ℕ) (from to : ℕ) → from ≤ to → NoneIn (is_used words) from to → NoneIn (is_ready words config) (64 * from) (64 * to)
-none_between words config from to le none y low high =
-    let index : from ≤ y / 64 = omega arith in
-    let below : y / 64 < to = omega arith in
-    none_in_unused words config (y / 64) (none (y / 64) index below) y (omega arith) (omega arith)
-
-pub best_before : (words config : List ℕ) (mask from to : ℕ) (best : Best) → from ≤ to → NoneIn (is_used words) from to
-    → IsBest words config mask (64 * from) best → IsBest words config mask (64 * to) best
-best_before words config mask from to best le none is =
-    best_past words config mask (64 * from) (64 * to) best (omega arith) (none_between words config from to le none) is
+    (best_past words config mask (64 * j + from) (64 * j + 64) best (omega (arith, le))
+    (none_left words config best.limit j ready from 64 (omega arith) bits none) is)
 
 count_more : (p : ℕ → Bool) (n m : ℕ) → n ≤ m → count_in p 0 m ≡ count_in p 0 n + count_in p n (m - n)
 count_more p n m le =
@@ -165,32 +150,77 @@ count_more p n m le =
     let place : 0 + n ≡ n = omega arith in
     ap (count_in p 0) (sym split) ∙ count_in-add p 0 n (m - n) ∙ ap (λ k. count_in p 0 n + count_in p k (m - n)) place
 
--- what a turn costs: the words of the summary up to the word's, the word, and the bytes of its LPIs
-pub cost_with_word : (words config : List ℕ) (from at start steps last : ℕ) → IsFirstIn (is_used words) from (length words) at
-    → steps ≤ start + from / 64 + 2 * count_in (is_used words) 0 from + count_in (is_ready words config) 0 (64 * from)
-    → last ≤ steps + (at / 64 - from / 64 + 2) + count_in (is_ready words config) (64 * at) 64
-    → last ≤ start + (at + 1) / 64 + 2 * count_in (is_used words) 0 (at + 1) + count_in (is_ready words config) 0 (64 * (at + 1))
-cost_with_word words config from at start steps last first so_far turn =
-    let le = first.from in
-    let used = count_more (is_used words) from (at + 1) (omega (arith, le)) in
-    let one = count_in-some (is_used words) from (at + 1 - from) at (record { from = le; below = omega (arith, le) }) first.met in
-    let before = count_more (is_ready words config) (64 * from) (64 * at) (omega (arith, le)) in
-    let through = count_more (is_ready words config) (64 * at) (64 * (at + 1)) (omega arith) in
-    let word : 64 * (at + 1) - 64 * at ≡ 64 = omega arith in
-    let through' : count_in (is_ready words config) 0 (64 * (at + 1)) ≡ count_in (is_ready words config) 0 (64 * at)
-    + count_in (is_ready words config) (64 * at) 64 = through ∙ ap (λ n. count_in (is_ready words config) 0 (64 * at)
-    + count_in (is_ready words config) (64 * at) n) word in
-    omega (arith, used, one, before, through', so_far, turn, le)
+-- ---- the 64 words of a group
 
--- and the words of the summary that are left
-pub cost_of_all : (words config : List ℕ) (summary from start steps last : ℕ) → length words ≡ 64 * summary → from ≤ length words
-    → steps ≤ start + from / 64 + 2 * count_in (is_used words) 0 from + count_in (is_ready words config) 0 (64 * from)
-    → last ≤ steps + (summary - from / 64)
-    → last ≤ start + length words / 64 + 2 * count_in (is_used words) 0 (length words) + count_in (is_ready words config) 0 (64 * length words)
-cost_of_all words config summary from start steps last size le so_far end =
-    let used = count_more (is_used words) from (length words) le in
-    let ready = count_more (is_ready words config) (64 * from) (64 * length words) (omega (arith, le)) in
-    omega (arith, used, ready, so_far, end, size, le)
+-- an LPI that is enabled comes no earlier than the least priority
+none_by_least : (words config : List ℕ) (limit a n : ℕ) → nat_lt (least_priority config (8192 + a) n) limit ≡ false
+    → NoneBelow words config limit a (a + n)
+none_by_least words config limit a n least y low high r =
+    let on : is_enabled config (8192 + y) ≡ true = (and_parts (word_bit words y) (is_enabled config (8192 + y)) r).1 in
+    let same : rank (config_byte config (8192 + y)) ≡ priority_of config (8192 + y) =
+    cond-true (is_enabled config (8192 + y)) (priority_of config (8192 + y)) 255 on in
+    let bound = least_below (λ x. rank (config_byte config x)) (8192 + a) n (8192 + y) (omega arith) (omega arith) in
+    let le = ltb-false (least_priority config (8192 + a) n) limit least in
+    omega (arith, same, bound, le)
+
+-- bit by bit the words that are used
+abbrev pub UsedWords : List ℕ → ℕ → ℕ → Type 0
+UsedWords words group used = (i : ℕ) → i < 64 → bit_of used i ≡ is_used words (64 * group + i)
+
+none_in_left : (words config : List ℕ) (limit group used i : ℕ) → i < 64 → UsedWords words group used
+    → is_left_of_group config limit group used i ≡ false → NoneBelow words config limit (64 * (64 * group + i)) (64 * (64 * group + i) + 64)
+none_in_left words config limit group used i lt bits none =
+    elim (cases_Bool (bit_of used i)) [
+      | inl is ↦
+          none_by_least words config limit (64 * (64 * group + i)) 64
+          (second_false (bit_of used i) (nat_lt (least_priority config (8192 + 64 * (64 * group + i)) 64) limit) is none)
+      | inr unused ↦
+          none_below words config limit (64 * (64 * group + i)) (64 * (64 * group + i) + 64)
+          (none_in_unused words config (64 * group + i) (sym (bits i lt) ∙ unused))
+    ]
+
+none_in_lefts : (words config : List ℕ) (limit group used from to : ℕ) → to ≤ 64 → UsedWords words group used
+    → NoneIn (is_left_of_group config limit group used) from to → NoneBelow words config limit (64 * (64 * group + from)) (64 * (64 * group + to))
+none_in_lefts words config limit group used from to le bits none y low high =
+    none_in_left words config limit group used (y / 64 - 64 * group) (omega arith) bits
+    (none (y / 64 - 64 * group) (omega arith) (omega arith)) y (omega arith) (omega arith)
+
+pub group_next : (words config : List ℕ) (mask group used from bit : ℕ) (best : Best) → UsedWords words group used
+    → IsFirstIn (is_left_of_group config best.limit group used) from 64 bit → IsBest words config mask (64 * (64 * group + from)) best
+    → IsBest words config mask (64 * (64 * group + bit)) best
+group_next words config mask group used from bit best bits first is =
+    best_past words config mask (64 * (64 * group + from)) (64 * (64 * group + bit)) best (omega (arith, first.from))
+    (none_in_lefts words config best.limit group used from bit (omega (arith, first.below)) bits first.before) is
+
+pub group_end : (words config : List ℕ) (mask group used from : ℕ) (best : Best) → from ≤ 64 → UsedWords words group used
+    → NoneIn (is_left_of_group config best.limit group used) from 64 → IsBest words config mask (64 * (64 * group + from)) best
+    → IsBest words config mask (4096 * (group + 1)) best
+group_end words config mask group used from best le bits none is =
+    let place : 64 * (64 * group + 64) ≡ 4096 * (group + 1) = omega arith in
+    subst (λ (n : ℕ). IsBest words config mask n best) place
+    (best_past words config mask (64 * (64 * group + from)) (64 * (64 * group + 64)) best (omega (arith, le))
+    (none_in_lefts words config best.limit group used from 64 (omega arith) bits none) is)
+
+-- one used word more
+pub one_used : (config : List ℕ) (limit group used from bit : ℕ) → IsFirstIn (is_left_of_group config limit group used) from 64 bit
+    → count_in (bit_of used) 0 from + 1 ≤ count_in (bit_of used) 0 (bit + 1)
+one_used config limit group used from bit first =
+    let le = first.from in
+    let more = count_more (bit_of used) from (bit + 1) (omega (arith, le)) in
+    let one = count_in-some (bit_of used) from (bit + 1 - from) bit (record { from = le; below = omega (arith, le) })
+    (and_parts (bit_of used bit) (nat_lt (least_priority config (8192 + 64 * (64 * group + bit)) 64) limit) first.met).0 in
+    omega (arith, more, one)
+
+pub used_within : (used from : ℕ) → from ≤ 64 → count_in (bit_of used) 0 from ≤ count_in (bit_of used) 0 64
+used_within used from le = let more = count_more (bit_of used) from 64 le in omega (arith, more)
+
+-- ---- all groups
+
+-- groups that have no enabled LPI before a limit
+pub none_in_groups : (words config : List ℕ) (limit from to : ℕ)
+    → NoneIn (λ g. nat_lt (least_priority config (8192 + 4096 * g) 4096) limit) from to → NoneBelow words config limit (4096 * from) (4096 * to)
+none_in_groups words config limit from to none y low high =
+    none_by_least words config limit (4096 * (y / 4096)) 4096 (none (y / 4096) (omega arith) (omega arith)) y (omega arith) (omega arith)
 
 -- ---- of all
 
@@ -325,27 +355,56 @@ pub best_is : (words config : List ℕ) (mask : ℕ) (best : Best) → IsBest wo
     → first_by_priority config mask (lpis_of words) ≡ option_map (λ k. 8192 + k) best.at
 best_is words config mask best is = found_is words config mask best.limit best.at is.least is.found
 
--- the bytes looked at are those of the LPIs that are pending and enabled
-length_those : (p : ℕ → Bool) (a n : ℕ) → length (those p a n) ≡ count_in p a n
-unfolding count_in
-length_those p a n = length-filter p (range_with_len a n)
+-- groups whose words of the summary are zero
+pub none_in_unused_groups : (summary words config : List ℕ) (limit from a n : ℕ) → IsSummary summary words
+    → ((k : ℕ) → k < n → is_nonzero (get_or (drop a summary) k 0) ≡ false) → NoneBelow words config limit (4096 * from) (4096 * a)
+    → NoneBelow words config limit (4096 * from) (4096 * (a + n))
+none_in_unused_groups summary words config limit from a n s zeros before =
+    none_below_and words config limit (4096 * from) (4096 * a) (4096 * (a + n)) before
+    (none_below words config limit (4096 * a) (4096 * (a + n)) (unused_groups summary words config a n s zeros))
 
-pub bytes_are : (words config : List ℕ) → count_in (is_ready words config) 0 (64 * length words) ≡ length (filter (is_enabled config) (lpis_of words))
-bytes_are words config =
-    let shifted = count_in-shift (λ x. lpi_bit words x && is_enabled config x) 8192 0 (64 * length words) in
-    let here : count_in (is_ready words config) 0 (64 * length words) ≡ count_in (λ k. lpi_bit words (8192 + k) && is_enabled config (8192 + k)) 0
-    (64 * length words) = count_in-same (is_ready words config) (λ k. lpi_bit words (8192 + k) && is_enabled config (8192 + k)) 0 (64 * length words)
-    (λ x w. let place : 8192 + x - 8192 ≡ x = omega arith in ap (λ k. word_bit words k && is_enabled config (8192 + x)) (sym place)) in
-    here ∙ shifted ∙ sym (length_those (λ x. lpi_bit words x && is_enabled config x) 8192 (64 * length words))
-    ∙ ap length (sym (those-filter (is_enabled config) (lpi_bit words) 8192 (64 * length words)))
+-- and then groups that have no enabled LPI before the limit
+pub none_up_to : (words config : List ℕ) (limit from used to : ℕ) → NoneBelow words config limit (4096 * from) (4096 * used)
+    → NoneIn (λ g. nat_lt (least_priority config (8192 + 4096 * g) 4096) limit) used to → NoneBelow words config limit (4096 * from) (4096 * to)
+none_up_to words config limit from used to before none =
+    none_below_and words config limit (4096 * from) (4096 * used) (4096 * to) before (none_in_groups words config limit used to none)
 
-pub best_cost : (words : List ℕ) (lpi_bits : ℕ) (config : List ℕ) (old new : ℕ) → 64 * length words ≡ lpi_count lpi_bits
-    → ((k : ℕ) → get_or words k 0 < 2 ^ 64)
-    → new ≤ old + length words / 64 + 2 * count_in (is_used words) 0 (length words) + count_in (is_ready words config) 0 (64 * length words)
-    → new ≤ old + summary_words lpi_bits + 2 * busy_words (record { lpi_bits = lpi_bits; lpis = lpis_of words })
-    + ready_lpis config (record { lpi_bits = lpi_bits; lpis = lpis_of words })
-best_cost words lpi_bits config old new size small cost =
+pub groups_are : (summary words : List ℕ) (count : ℕ) → IsSummary summary words → 64 * length words ≡ count → count / 4096 ≡ length summary
+groups_are summary words count s size = omega (arith, s.size, size)
+
+-- all of them
+pub none_to_end : (summary words config : List ℕ) (limit from last : ℕ) → IsSummary summary words → last ≡ length summary
+    → NoneBelow words config limit (4096 * from) (4096 * last) → NoneBelow words config limit (4096 * from) (64 * length words)
+none_to_end summary words config limit from last s is none =
+    let place : 4096 * last ≡ 64 * length words = omega (arith, s.size, is) in
+    subst (λ (n : ℕ). NoneBelow words config limit (4096 * from) n) place none
+
+-- one group more
+pub best_to_group : (words config : List ℕ) (mask from group : ℕ) (best : Best) → IsNextGroup words config best.limit from group
+    → IsBest words config mask (4096 * from) best → IsBest words config mask (4096 * group) best
+best_to_group words config mask from group best next is =
+    best_past words config mask (4096 * from) (4096 * group) best (omega (arith, next.from)) next.before is
+
+pub cost_with_group : (summary words : List ℕ) (from group used start mask steps limit after last limit' : ℕ) → IsSummary summary words → from ≤ group
+    → used ≡ get_or summary group 0
+    → steps + priorities_before limit ≤ start + priorities_before mask + from + 2 * count_in (is_used words) 0 (64 * from)
+    → after + from ≤ steps + group + 1 → last + priorities_before limit' ≤ after + priorities_before limit + 2 * count_in (bit_of used) 0 64
+    → last + priorities_before limit' ≤ start + priorities_before mask + (group + 1) + 2 * count_in (is_used words) 0 (64 * (group + 1))
+cost_with_group summary words from group used start mask steps limit after last limit' s le is so_far walk turn =
+    let here : count_in (bit_of used) 0 64 ≡ count_in (bit_of (get_or summary group 0)) 0 64 = ap (λ w. count_in (bit_of w) 0 64) is in
+    omega (arith, used_with_group summary words from group s le, here, so_far, walk, turn, le)
+
+pub cost_of_all : (summary words : List ℕ) (from start mask steps limit last : ℕ) → IsSummary summary words → from ≤ length summary → mask < 256
+    → steps + priorities_before limit ≤ start + priorities_before mask + from + 2 * count_in (is_used words) 0 (64 * from)
+    → last + from ≤ steps + length words / 64
+    → last ≤ start + length words / 64 + 2 * count_in (is_used words) 0 (length words) + 64
+cost_of_all summary words from start mask steps limit last s le small so_far walk =
+    omega (arith, used_so_far (is_used words) (64 * from) (length words) (omega (arith, s.size, le)), so_far, walk, s.size, small)
+
+pub best_cost : (words : List ℕ) (lpi_bits old new : ℕ) → 64 * length words ≡ lpi_count lpi_bits → ((k : ℕ) → get_or words k 0 < 2 ^ 64)
+    → new ≤ old + length words / 64 + 2 * count_in (is_used words) 0 (length words) + 64
+    → new ≤ old + summary_words lpi_bits + 2 * busy_words (record { lpi_bits = lpi_bits; lpis = lpis_of words }) + 64
+best_cost words lpi_bits old new size small cost =
     let used = used_words words lpi_bits size small in
-    let bytes = bytes_are words config in
     let summaries : lpi_count lpi_bits / 4096 ≡ length words / 64 = omega arith in
-    omega (arith, used, bytes, summaries, cost)
+    omega (arith, used, summaries, cost)

@@ -5,7 +5,7 @@ use Rattle.std.specs.Prelude.{◌||◌, ◌&&◌, replicate}
 use Rattle.std.proofs.lemmas.List.{length-set, length-replicate, get_or-replicate, get_or_past}
 use Rattle.its_types.specs.Bits.{bit_of}
 use Rattle.its_types.proofs.Words.{word_bit-set}
-use Rattle.lpi_pending.proofs.Bits.{bit_of-zero}
+use Rattle.lpi_config.proofs.LowestBits.{bit_of-zero}
 use Rattle.std.proofs.lemmas.Bool.{cases_eq, cases_lt, and_parts, leb-true, ltb-true, eq-eqb, ne_eqb, le-leb, lt-ltb, cases_Bool, both_ways}
 use Rattle.its_types.specs.Ranges.{is_lpi, lpi_count}
 use Rattle.its_types.specs.Lpis.{is_pending, with_lpi, without_lpi}

@@ -1,17 +1,11 @@
 -- Bits of words: of a zero word, of two words together, of a word that isn't zero.
-use Rattle.std.proofs.Common.{◌≡◌, ◌≢◌, ◌⊎◌, ℕ, ◌^◌, ◌<◌, true, false, min, max, bit_and, bit_or, eqb, refl, sym, ap, ◌∙◌, inl, inr, arith}
+use Rattle.std.proofs.Common.{◌≡◌, ◌≢◌, ◌⊎◌, ℕ, ◌<◌, true, false, min, max, bit_and, bit_or, eqb, refl, sym, ap, ◌∙◌, inl, inr, arith}
 use Rattle.std.specs.Prelude.{◌||◌, ◌&&◌}
-use Rattle.std.specs.Int.{w64, trailing_zeros, bit_at}
-use Rattle.std.proofs.lemmas.Bool.{cases_eq, eq-eqb, ne_eqb, eqb-true, not-false, both_ways}
-use Rattle.std.proofs.lemmas.Nat.Bits.{bit_at_and, bit_at_or, bit_at-zero, bit_at-lt, bit_at-trailing_zeros, same_from_bits}
+use Rattle.std.specs.Int.{bit_at}
+use Rattle.std.proofs.lemmas.Bool.{cases_eq, ne_eqb, eqb-true, not-false, both_ways}
+use Rattle.std.proofs.lemmas.Nat.Bits.{bit_at_and, bit_at_or, bit_at-zero, bit_at-lt, same_from_bits}
 use Rattle.its_types.specs.Bits.{bit_of}
 use Rattle.lpi_pending.specs.Summaries.{is_nonzero}
-
-pub bit_of-zero : (i : ℕ) → bit_of 0 i ≡ false
-bit_of-zero i = ap (λ n. eqb n 1) (bit_at-zero i)
-
-bit_of-one : (n i : ℕ) → bit_at n i ≡ 1 → bit_of n i ≡ true
-bit_of-one n i e = eq-eqb (bit_at n i) 1 e
 
 -- a bit is 0 or 1
 two_bits : (a : ℕ) → a < 2 → (a ≡ 0) ⊎ (a ≡ 1)
@@ -36,22 +30,6 @@ bit_of-and a b i = ap (λ n. eqb n 1) (bit_at_and a b i) ∙ eqb-min (bit_at a i
 
 pub bit_of-or : (a b i : ℕ) → bit_of (bit_or a b) i ≡ (bit_of a i || bit_of b i)
 bit_of-or a b i = ap (λ n. eqb n 1) (bit_at_or a b i) ∙ eqb-max (bit_at a i) (bit_at b i) (bit_at-lt a i) (bit_at-lt b i)
-
--- the lowest bit of a word that isn't zero
-pub record IsLowest (word i : ℕ) : Type 0 where
-  pub below : i < 64
-  pub met : bit_of word i ≡ true
-  pub before : (j : ℕ) → j < i → bit_of word j ≡ false
-
-pub lowest : (word : ℕ) → word ≢ 0 → word < 2 ^ 64 → IsLowest word (trailing_zeros w64 word)
-lowest word some small =
-    let pos : 0 < word = omega (arith, some) in
-    let parts = bit_at-trailing_zeros w64 word pos small in
-    record {
-      below = parts.0;
-      met = bit_of-one word _ parts.1;
-      before = λ j lt. ap (λ n. eqb n 1) (parts.2 j lt);
-    }
 
 pub is_nonzero-true : (word : ℕ) → is_nonzero word ≡ true → word ≢ 0
 is_nonzero-true word e zero_is = both_ways (is_nonzero word) (rw zero_is refl) e

@@ -11,7 +11,8 @@ use Rattle.its_types.specs.Lpis.{is_pending, is_enabled, first_enabled}
 use Rattle.lpi_pending.specs.Searches.{NoneIn, IsFirstIn, count_in}
 use Rattle.lpi_pending.specs.Summaries.{is_used, is_ready}
 use Rattle.lpi_pending.specs.PendingSets.{lpi_bit, lpis_of, is_busy, busy_words, summary_words}
-use Rattle.lpi_pending.proofs.Bits.{lowest, is_nonzero-true}
+use Rattle.lpi_config.proofs.LowestBits.{lowest}
+use Rattle.lpi_pending.proofs.Bits.{is_nonzero-true}
 use Rattle.lpi_pending.proofs.Sets.{IsWithin, find-those, find-range_first, find-range_none}
 use Rattle.lpi_pending.proofs.Counts.{count_in-le, count_in-shift}
 use Rattle.lpi_pending.proofs.Bitmaps.{is_pending-lpis_of}

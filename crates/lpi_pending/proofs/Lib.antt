@@ -10,6 +10,7 @@ pub mod Firsts
 pub mod Moves
 pub mod Nexts
 pub mod Tables
+pub mod FirstOfBoth
 pub mod Bests
 pub mod AskedBases
 pub mod Zeros

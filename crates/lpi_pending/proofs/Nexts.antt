@@ -1,12 +1,9 @@
 -- The next bit from one on: in its word, and else in the next word that isn't zero.
-use Rattle.std.proofs.Common.{◌≡◌, ◌≢◌, ℕ, ◌+◌, ◌-◌, ◌*◌, ◌/◌, ◌%◌, ◌^◌, ◌<◌, ◌≤◌, zero, suc, Bool, true, false, List, [], ◌∷◌, ◌++◌, map, length, get_or}
-use Rattle.std.proofs.Common.{take, drop, Some, None, cond, eqb, refl, sym, ap, subst, ◌∙◌, inl, inr, arith}
+use Rattle.std.proofs.Common.{◌≡◌, ℕ, ◌+◌, ◌-◌, ◌*◌, ◌/◌, ◌%◌, ◌^◌, ◌<◌, ◌≤◌, zero, suc, Bool, true, false, List, [], ◌∷◌, ◌++◌, map, length, get_or}
+use Rattle.std.proofs.Common.{take, drop, Some, None, cond, refl, sym, ap, subst, ◌∙◌, inl, inr, arith}
 use Rattle.std.specs.Prelude.{position}
 use Rattle.std.specs.Int.{w64, trailing_zeros}
-use Rattle.std.proofs.Math.Nat.{div-le_self, div-div-eq-div-mul}
-use Rattle.std.proofs.lemmas.Nat.{pow-add}
-use Rattle.std.proofs.lemmas.Nat.Bits.{bit_at_above}
-use Rattle.std.proofs.lemmas.Bool.{cases_lt, both_ways}
+use Rattle.std.proofs.lemmas.Bool.{cases_lt}
 use Rattle.std.proofs.lemmas.List.{get_or-drop, length-drop, take_rest, append-nil, map-append}
 use Rattle.std.proofs.lemmas.List.Quantifiers.{position-Some}
 use Rattle.its_types.specs.Bits.{bit_of}
@@ -15,43 +12,11 @@ use Rattle.its_types.specs.Bitmap.{word_bit}
 use Rattle.lpi_pending.specs.PendingSets.{lpi_bit, lpis_of}
 use Rattle.lpi_pending.specs.Searches.{NoneIn, IsFirstIn}
 use Rattle.lpi_pending.specs.Summaries.{is_nonzero, is_used, IsSummary}
-use Rattle.lpi_pending.proofs.Bits.{bit_of-zero, lowest, is_nonzero-true, is_nonzero-false}
+use Rattle.lpi_config.proofs.LowestBits.{bit_of-zero, lowest}
+use Rattle.lpi_pending.proofs.Bits.{is_nonzero-true, is_nonzero-false}
 use Rattle.lpi_pending.proofs.Masks.{position-None}
 use Rattle.lpi_pending.proofs.Searching.{none_and}
 use Rattle.lpi_pending.proofs.Sets.{those}
-
--- ---- a word
-
-shifted_bit : (word s i : ℕ) → bit_of (word / 2 ^ s) i ≡ bit_of word (s + i)
-shifted_bit word s i =
-    let split : word / 2 ^ (s + i) ≡ word / 2 ^ s / 2 ^ i = ap (λ d. word / d) (pow-add 2 s i) ∙ sym (div-div-eq-div-mul word (2 ^ s) (2 ^ i)) in
-    ap (λ q. eqb (q % 2) 1) (sym split)
-
-bit_within : (word i : ℕ) → word < 2 ^ 64 → bit_of word i ≡ true → i < 64
-bit_within word i small is =
-    elim (cases_lt i 64) [
-      | inl lt ↦ lt
-      | inr past ↦ absurd (both_ways (bit_of word i) (ap (λ n. eqb n 1) (bit_at_above word 64 i small past)) is)
-    ]
-
-pub bit_found : (word s : ℕ) → word < 2 ^ 64 → word / 2 ^ s ≢ 0 → IsFirstIn (bit_of word) s 64 (s + trailing_zeros w64 (word / 2 ^ s))
-bit_found word s small some =
-    let fits : word / 2 ^ s < 2 ^ 64 = let le = div-le_self word (2 ^ s) in omega (arith, le) in
-    let low = lowest (word / 2 ^ s) some fits in
-    let met : bit_of word (s + trailing_zeros w64 (word / 2 ^ s)) ≡ true = sym (shifted_bit word s (trailing_zeros w64 (word / 2 ^ s))) ∙ low.met in
-    record {
-      from = omega arith;
-      below = bit_within word (s + trailing_zeros w64 (word / 2 ^ s)) small met;
-      met = met;
-      before = λ y from below.
-          let split : s + (y - s) ≡ y = omega arith in
-          ap (bit_of word) (sym split) ∙ sym (shifted_bit word s (y - s)) ∙ low.before (y - s) (omega arith);
-    }
-
-pub no_bit : (word s : ℕ) → word / 2 ^ s ≡ 0 → NoneIn (bit_of word) s 64
-no_bit word s none y from below =
-    let split : s + (y - s) ≡ y = omega arith in
-    ap (bit_of word) (sym split) ∙ sym (shifted_bit word s (y - s)) ∙ ap (λ n. bit_of n (y - s)) none ∙ bit_of-zero (y - s)
 
 -- ---- ranges
 

@@ -11,7 +11,8 @@ use Rattle.its_types.specs.Lpis.{is_enabled}
 use Rattle.its_types.specs.Bitmap.{word_bit}
 use Rattle.lpi_pending.specs.Searches.{NoneIn, IsFirstIn, count_in}
 use Rattle.lpi_pending.specs.Summaries.{is_nonzero, is_used, is_ready, IsSummary}
-use Rattle.lpi_pending.proofs.Bits.{bit_of-zero, bit_of-and, IsLowest, lowest, is_nonzero-false}
+use Rattle.lpi_config.proofs.LowestBits.{bit_of-zero, IsLowest, lowest}
+use Rattle.lpi_pending.proofs.Bits.{bit_of-and, is_nonzero-false}
 use Rattle.lpi_pending.proofs.Masks.{position-None}
 use Rattle.lpi_pending.proofs.Counts.{count_in-same, count_in-less, count_in-some, count_in-add, count_in-shift}
 

@@ -1,9 +1,9 @@
 -- A redistributor in hand whose LPIs are turned on.
-use Rattle.std.proofs.Common.{◌≡◌, ℕ, Bool, true, false, ◌&&◌, if◌then◌else◌, List, refl, sym, ap, ◌∙◌, subst}
+use Rattle.std.proofs.Common.{◌≡◌, ℕ, Bool, true, false, if◌then◌else◌, List, refl, ap, ◌∙◌}
 use Rattle.guest_windows.specs.Windows.{Window, inside}
 use Rattle.its_types.specs.Ranges.{lpi_count, pending_bytes}
 use Rattle.its_types.specs.declared.machine.Shape.{Shape}
-use Rattle.gicr_regs.specs.Redistributors.{Redistributor, pending_in}
+use Rattle.gicr_regs.specs.Redistributors.{pending_in}
 use Rattle.gicr_regs.specs.Registers as registers
 use Rattle.gicr_regs.specs.declared.write.GicrWrite.TheVariants.{Enable}
 use Rattle.lpi_config.specs.Conf.{Conf}

@@ -1,7 +1,7 @@
 -- Where no LPI is enabled none is found.
-use Rattle.std.proofs.Common.{◌≡◌, ℕ, zero, suc, ◌-◌, Bool, true, false, List, [], ◌∷◌, refl, ap, ◌∙◌}
-use Rattle.std.specs.Prelude.{replicate, slice_index, Option, None, find}
-use Rattle.its_types.specs.Lpis.{is_enabled, first_enabled, first_by_priority, is_unmasked, first_of}
+use Rattle.std.proofs.Common.{◌≡◌, ℕ, zero, suc, ◌-◌, false, List, [], ◌∷◌, refl}
+use Rattle.std.specs.Prelude.{replicate, slice_index, None}
+use Rattle.its_types.specs.Lpis.{is_enabled, first_enabled, first_by_priority}
 
 zero_at : (n k : ℕ) → slice_index (replicate n 0) k ≡ 0
 zero_at zero k = refl

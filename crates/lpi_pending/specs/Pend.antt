@@ -1,5 +1,5 @@
 -- What is pending at a redistributor in hand, and whether it takes LPIs.
-use Rattle.std.specs.Prelude.{◌≡◌, ◌≤◌, ℕ, Bool, true, false, if◌then◌else◌, Option, Some, None, List, MatchOption, refl}
+use Rattle.std.specs.Prelude.{◌≡◌, ◌≤◌, ℕ, Bool, true, false, if◌then◌else◌, Option, List, MatchOption, refl}
 use Rattle.std.specs.Coded.{Coded, code_by, coded×, coded_bool}
 use Rattle.guest_windows.specs.Windows.{Window, inside}
 use Rattle.gicr_regs.specs.Redistributors.{pending_in}

@@ -4,7 +4,6 @@ use Rattle.std.specs.List.{list_any, range_with_len}
 use Rattle.std.specs.Coded.{Coded, code_by, coded×, coded_list, coded_ℕ}
 use Rattle.guest_windows.specs.Windows.{Window, byte_at}
 use Rattle.its_types.specs.Bits.{bit_of}
-use Rattle.its_types.specs.Lpis.{is_enabled}
 use Rattle.its_types.specs.Ranges.{lpi_count}
 use Rattle.its_types.specs.declared.ids.Intid.{Intid}
 use Rattle.its_types.specs.Bitmap.{word_bit}
@@ -61,7 +60,3 @@ busy_words p = count_in (is_busy p.lpis) 128 (lpi_count p.lpi_bits / 64)
 -- how many words the summary has: a bit for each word of 64 LPIs
 abbrev pub summary_words : ℕ → ℕ
 summary_words lpi_bits = lpi_count lpi_bits / 4096
-
--- how many of the LPIs that are pending are enabled
-abbrev pub ready_lpis : List ℕ → PendingSet → ℕ
-ready_lpis config p = length (filter (is_enabled config) p.lpis)

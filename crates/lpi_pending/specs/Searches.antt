@@ -1,19 +1,7 @@
 -- The first number of a range that passes a test, and how many pass it.
-use Rattle.std.specs.Prelude.{◌≡◌, ℕ, ◌≤◌, ◌<◌, Bool, true, false, Option, MatchOption, count_by}
+use Rattle.std.specs.Prelude.{ℕ, Bool, count_by}
 use Rattle.std.specs.List.{range_with_len}
-
--- none from low on, below high
-abbrev pub NoneIn : (ℕ → Bool) → ℕ → ℕ → Type 0
-NoneIn test low high = (y : ℕ) → low ≤ y → y < high → test y ≡ false
-
-pub record IsFirstIn (test : ℕ → Bool) (low high x : ℕ) : Type 0 where
-  pub from : low ≤ x
-  pub below : x < high
-  pub met : test x ≡ true
-  pub before : NoneIn test low x
-
-abbrev pub FirstIn : (ℕ → Bool) → ℕ → ℕ → Option ℕ → Type 0
-FirstIn test low high found = MatchOption found (NoneIn test low high) (λ x. IsFirstIn test low high x)
+pub use Rattle.lpi_config.specs.Searches.{NoneIn, IsFirstIn, FirstIn}
 
 -- how many of the n numbers from low on
 unfoldable pub count_in : (ℕ → Bool) → ℕ → ℕ → ℕ

@@ -6,11 +6,11 @@ ghost use Rattle.its_types.specs.Ranges.{lpi_count};
 ghost use Rattle.its_types.specs.Bits.{bit_of};
 ghost use Rattle.its_types.specs.Bitmap.{word_bit};
 ghost use Rattle.lpi_pending.specs.PendingSets.{table_bit};
-ghost use Rattle.lpi_pending.specs.Priorities.{IsBest};
+ghost use Rattle.lpi_pending.specs.Priorities.{IsBest, IsNextGroup, NoneBelow};
 ghost use Rattle.lpi_pending.specs.Searches.{FirstIn, count_in};
 ghost use Rattle.lpi_pending.specs.Summaries.{is_used, is_ready};
 
-use crate::best::{Best, best_with_word};
+use crate::best::{Best, best_in_group};
 use crate::lanes::first_nonzero;
 use crate::steps::Steps;
 use guest_windows::Memory;
@@ -168,8 +168,10 @@ impl Bitmap {
     }
 
     // Of the bits that are 1 and whose LPIs are enabled, the first by priority below a mask. A step
-    // is a word looked at, as in `first_ready`, or an LPI's byte. A word of the summary is looked
-    // at again for each word that it leads to.
+    // is a word looked at, of the summary with the least priorities of its 64 words, or of the bits
+    // with the bytes of its 64 LPIs; or it is an LPI that comes before those so far, of which there
+    // are no more than priorities. A word of the summary is looked at again for each word that it
+    // leads to.
     pub fn first_by_priority<L: Ledger>(
         &self,
         config: &Config,
@@ -179,8 +181,7 @@ impl Bitmap {
         requires { 64 * length self.now ≡ lpi_count config.now.lpi_bits }
         ensures best { IsBest self.now config.now.bytes mask (64 * length self.now) result }
         ensures cost { steps.new ≤ steps.old + length self.now / 64
-            + 2 * count_in (is_used self.now) 0 (length self.now)
-            + count_in (is_ready self.now config.now.bytes) 0 (64 * length self.now) }
+            + 2 * count_in (is_used self.now) 0 (length self.now) + 64 }
         ensures words { (k : ℕ) → slice_index self.now k < 2 ^ 64 }
     {
         let words: &[u64] = &self.words;
@@ -189,13 +190,46 @@ impl Bitmap {
             limit: mask,
         };
         let mut from = 0;
-        while let Some(at) = self.next_used(from) {
-            steps.add((at / 64 - from / 64) as u64 + 2);
-            best = best_with_word(words, config, at, best, steps);
-            from = at + 1;
+        while let Some(group) = self.next_group(config, from, best.limit, steps) {
+            let used = self.summary[group];
+            best = best_in_group(words, config, group, used, best, steps);
+            from = group + 1;
         }
-        steps.add((self.summary.len() - from / 64) as u64);
         best
+    }
+
+    // The first group of words from this one on that has a bit that is 1 and an enabled LPI that
+    // comes before a limit. A step is a word of the summary looked at.
+    fn next_group<L: Ledger>(
+        &self,
+        config: &Config,
+        from: usize,
+        limit: u8,
+        steps: &mut Steps<L>,
+    ) -> Option<usize>
+        requires within { 64 * from ≤ length self.now }
+        requires size { 64 * length self.now ≡ lpi_count config.now.lpi_bits }
+        ensures found { MatchOption result
+            (NoneBelow self.now config.now.bytes limit (4096 * from) (64 * length self.now))
+            (λ group. IsNextGroup self.now config.now.bytes limit from group) }
+        ensures cost { MatchOption result
+            (steps.new + from ≤ steps.old + length self.now / 64)
+            (λ group. steps.new + from ≤ steps.old + group + 1) }
+    {
+        let mut at = from;
+        while let Some(skipped) = first_nonzero(&self.summary[at..]) {
+            let used = at + skipped;
+            steps.add(skipped as u64 + 1);
+            let Some(group) = config.next_group_below(used, limit) else {
+                return None;
+            };
+            if group == used {
+                return Some(group);
+            }
+            at = group;
+        }
+        steps.add((self.summary.len() - at) as u64);
+        None
     }
 }
 

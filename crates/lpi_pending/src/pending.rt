@@ -9,7 +9,6 @@ ghost use Rattle.its_types.specs.Bits as bits;
 ghost use Rattle.its_types.specs.Ranges.{is_lpi, lpi_count, pending_bytes};
 ghost use Rattle.its_types.specs.Lpis as spec;
 ghost use Rattle.lpi_pending.specs.PendingSets.{none_pending, as_intid, busy_words, summary_words};
-ghost use Rattle.lpi_pending.specs.PendingSets.{ready_lpis};
 
 use crate::bitmap::Bitmap;
 use crate::steps::Steps;
@@ -170,8 +169,9 @@ impl Pending {
     }
 
     /// The LPI that comes first by priority below a mask, and how much was looked at to find it:
-    /// each word of the summary once, each word of 64 LPIs that has a pending one, and with each
-    /// of these a word of the summary again, and the byte of each LPI that is pending and enabled.
+    /// each word of the summary once, each word of 64 LPIs that has a pending one, with the 64
+    /// bytes of their configuration, and with each of these a word of the summary again; and an LPI
+    /// for each of the 64 priorities.
     pub fn first_by_priority_in<L: Ledger>(
         &self,
         config: &Config,
@@ -183,7 +183,7 @@ impl Pending {
             (spec.first_by_priority config.now.bytes mask self.now.lpis) }
         ensures in_range { IfSome result (λ intid. is_lpi self.now.lpi_bits intid.0 ≡ true) }
         ensures cost { steps.new ≤ steps.old + summary_words self.now.lpi_bits
-            + 2 * busy_words self.now + ready_lpis config.now.bytes self.now }
+            + 2 * busy_words self.now + 64 }
     {
         match self.bitmap.first_by_priority(config, mask, steps).at {
             Some(at) => Some(Intid(8192 + at as u32)),

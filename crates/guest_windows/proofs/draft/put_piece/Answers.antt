@@ -3,7 +3,7 @@ use Rattle.std.proofs.lemmas.Bool.{cases_eq}
 use Rattle.guest_windows.specs.Chunks.{page_rows}
 use Rattle.guest_windows.specs.Pages.{rows, page_row}
 use Rattle.guest_windows.specs.declared.draft_chunk.DraftChunk.{DraftChunk}
-use Rattle.guest_windows.specs.Drafts.{own_rows, own_of, byte_over}
+use Rattle.guest_windows.specs.Drafts.{chunk_rows, own_of, byte_over}
 use Rattle.guest_windows.proofs.Fitting.{zero_at}
 use Rattle.guest_windows.proofs.DraftChunks.{wrote, has_slot, slot_is, in_page}
 use Rattle.guest_windows.proofs.draft.put_piece.Goals as goal
@@ -58,12 +58,12 @@ returns-clause-others c i out =
       | inl is ↦
           let m : ℕ = i % 65536 in
           let under : ℕ = get_or (page_row (rows f.chunks.items) q) m 0 in
-          let slot : get_or (own_rows chunk.pages.items) (q % 4096) None ≡ own_of old w q =
-          ap (λ (x : DraftChunk). get_or (own_rows x.pages.items) (q % 4096) None) c.index_mut.ensures.value
+          let slot : get_or (chunk_rows chunk) (q % 4096) None ≡ own_of old w q =
+          ap (λ (x : DraftChunk). get_or (chunk_rows x) (q % 4096) None) c.index_mut.ensures.value
           ∙ sym (slot_is cs w q c.in_ok-place.place chunk lays) ∙ here in
           in_page _ f w q i is ∙ ap (λ (o : Option (List ℕ)). byte_over o m under) done.here
           ∙ put.put.3 m (elim out [ inl low ↦ inl (omega (arith, low, is, c.requires.page)) | inr high ↦ inr (omega (arith, high, is, c.requires.page)) ])
-          ∙ ap (λ (r : List (List ℕ)). byte_over (get_or (own_rows chunk.pages.items) (q % 4096) None) m
+          ∙ ap (λ (r : List (List ℕ)). byte_over (get_or (chunk_rows chunk) (q % 4096) None) m
           (get_or (get_or r (q % 4096) []) m 0)) c.chunk_of-under.ensures
           ∙ ap (λ (o : Option (List ℕ)). byte_over o m under) slot ∙ sym (in_page old f w q i is)
       | inr other ↦

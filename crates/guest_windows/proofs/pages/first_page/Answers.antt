@@ -1,8 +1,9 @@
-use Rattle.std.proofs.Common.{◌≡◌, ◌<◌, ◌≤◌, true, length, subst, arith}
+use Rattle.std.proofs.Common.{◌≡◌, ◌<◌, ◌≤◌, ◌∙◌, true, length, get_or, subst, arith}
 use Rattle.guest_windows.specs.Windows.{has}
 use Rattle.guest_windows.specs.Zeros.{IsZeroIn}
-use Rattle.guest_windows.specs.Fields.{window}
-use Rattle.guest_windows.proofs.Holding.{zeros_less, zeros_more, has_inside, zero_less}
+use Rattle.guest_windows.specs.Fields.{window, IsHeldIn}
+use Rattle.std.proofs.lemmas.List.{get_or_default}
+use Rattle.guest_windows.proofs.Holding.{zeros_less, zeros_more, has_inside, zero_less, none_less, one_more}
 use Rattle.guest_windows.proofs.pages.first_page.Goals.{then-next-first, else-next-first}
 use Rattle.guest_windows.proofs.pages.first_page.Goals as goal
 
@@ -26,6 +27,9 @@ loop-frame-preserved c =
             part = λ some. has_inside fs i next.0.0 next.1 f lt (subst (λ g. has (window g) next.0.0 next.1 ≡ true) c.frame-item.is (tells.part some));
             few = tells.few;
             none = tells.none;
+            held = λ some. (i, lt, λ d. subst (IsHeldIn next.0.0) (c.frame-item.is ∙ get_or_default fs i f d lt) (tells.held some));
+            skipped = λ j d low. one_more fs i j f d from next.0.0 lt low c.frame-item.is
+                (λ k e few. none_less from next.0.0 l.first.0.0 (get_or fs k e) less (l.invariant.skipped k e few)) tells.skipped;
           })
       | else-next-first w ↦
           let less : l.first.0.0 ≤ next.0.0 = omega (arith, w.if-next-first) in
@@ -36,5 +40,8 @@ loop-frame-preserved c =
             part = l.invariant.part;
             few = l.invariant.few;
             none = l.invariant.none;
+            held = l.invariant.held;
+            skipped = λ j d low. one_more fs i j f d from l.first.0.0 lt low c.frame-item.is l.invariant.skipped
+                (none_less from l.first.0.0 next.0.0 f less tells.skipped);
           })
     ]

@@ -7,3 +7,9 @@ overflow_sub-result c = let s = size_of c.args.lpi_bits c.requires.low c.require
 
 pub returns-clause-words : goal.returns-clause-words
 returns-clause-words c = let s = size_of c.args.lpi_bits c.requires.low c.requires.high in omega arith
+
+pub returns-clause-groups : goal.returns-clause-groups
+returns-clause-groups c = let s = size_of c.args.lpi_bits c.requires.low c.requires.high in omega arith
+
+pub returns-clause-most : goal.returns-clause-most
+returns-clause-most c = let s = size_of c.args.lpi_bits c.requires.low c.requires.high in omega arith

@@ -1,5 +1,5 @@
 use Rattle.std.proofs.Common.{◌≢◌, ◌/◌, ◌^◌, arith}
-use Rattle.lpi_pending.proofs.Nexts.{bit_found, no_bit}
+use Rattle.lpi_config.proofs.LowestBits.{bit_found, no_bit}
 use Rattle.lpi_pending.proofs.bitmap.bit_from.Goals as goal
 
 pub returns-then-left-eq0 : goal.returns-then-left-eq0

@@ -1,5 +1,5 @@
 use Rattle.std.proofs.Common.{◌≢◌, refl, arith}
-use Rattle.lpi_pending.proofs.Bits.{lowest}
+use Rattle.lpi_config.proofs.LowestBits.{lowest}
 use Rattle.lpi_pending.proofs.Searching.{searched_first, searched_next, searched_all, found_in_group, one_less, some_left}
 use Rattle.lpi_pending.proofs.bitmap.first_in_group.Goals as goal
 

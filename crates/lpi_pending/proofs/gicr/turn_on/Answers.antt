@@ -1,4 +1,4 @@
-use Rattle.std.proofs.Common.{◌≡◌, ℕ, true, List, sym, ap, ◌∙◌}
+use Rattle.std.proofs.Common.{◌≡◌, true, sym, ap, ◌∙◌}
 use Rattle.guest_windows.specs.Windows.{inside}
 use Rattle.its_types.specs.Ranges.{lpi_count, pending_bytes}
 use Rattle.its_types.specs.declared.translation.Bases.{Bases}

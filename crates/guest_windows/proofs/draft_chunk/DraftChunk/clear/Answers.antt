@@ -1,10 +1,12 @@
 use Rattle.std.proofs.Common.{ℕ, List, set, Some, ap, ◌∙◌}
-use Rattle.std.proofs.lemmas.List.{map-set}
-use Rattle.guest_windows.specs.Drafts.{own_rows, row_of}
+use Rattle.guest_windows.specs.Drafts.{chunk_rows}
+use Rattle.guest_windows.proofs.Numbers.{rows_written, chunk_numbering, has_number}
 use Rattle.guest_windows.proofs.draft_chunk.DraftChunk.clear.Goals as goal
 
-pub returns-clause-cleared : goal.returns-clause-cleared
-returns-clause-cleared c =
-    let pages = c.args.self.now.pages.items in
-    map-set row_of pages c.args.page (Some c.none.result)
-    ∙ ap (λ (row : List ℕ). set (own_rows pages) c.args.page (Some row)) c.none.ensures
+pub returns-in-Some-clause-cleared : goal.returns-in-Some-clause-cleared
+returns-in-Some-clause-cleared c =
+    let chunk = c.args.self.now in
+    let page = c.args.page in
+    rows_written chunk.numbers.items chunk.laid.items page c.in-Some.place c.none-none.result (chunk_numbering chunk) (has_number chunk page c.requires)
+    c.in-Some.ensures.number c.in-Some.ensures.inside
+    ∙ ap (λ (row : List ℕ). set (chunk_rows chunk) page (Some row)) c.none-none.ensures

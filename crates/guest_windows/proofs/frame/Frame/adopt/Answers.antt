@@ -1,7 +1,7 @@
-use Rattle.std.proofs.Common.{ℕ, ◌/◌, ◌%◌, List, get_or, Option, None, refl, sym, ap, ◌∙◌, inl, inr, arith}
+use Rattle.std.proofs.Common.{◌≡◌, ℕ, ◌/◌, ◌%◌, List, get_or, Option, None, refl, sym, ap, ◌∙◌, inl, inr, arith}
 use Rattle.std.proofs.lemmas.Bool.{cases_eq}
 use Rattle.guest_windows.specs.Pages.{rows, byte_in}
-use Rattle.guest_windows.specs.Drafts.{own_page, own_rows, byte_over}
+use Rattle.guest_windows.specs.Drafts.{own_page, own_rows, chunk_rows, byte_over}
 use Rattle.guest_windows.proofs.Fitting.{bytes_same}
 use Rattle.guest_windows.proofs.Drafting.{laid_is}
 use Rattle.guest_windows.proofs.DraftChunks.{own_there, own_elsewhere}
@@ -18,9 +18,13 @@ returns c =
     let same = bytes_same (rows f.chunks.items) (rows hold.new.self.chunks.items) hold.ensures.same i in
     elim (cases_eq (i / 65536 / 4096) chunk.at) [
       | inl is ↦
-          let slot : Option (List ℕ) = get_or (own_rows chunk.pages.items) (i / 65536 % 4096) None in
+          let adopted : List (Option (List ℕ)) = own_rows c.deref.result.now c.deref_mut.result.now in
+          let all : adopted ≡ chunk_rows chunk =
+          ap (λ (numbers : List ℕ). own_rows numbers c.deref_mut.result.now) c.deref.ensures.value
+          ∙ ap (own_rows chunk.numbers.items) c.deref_mut.ensures.value in
           laid.ensures.here i (omega (arith, lt, hold.ensures.len)) (omega (arith, is))
-          ∙ ap (byte_over slot (i % 65536)) same
+          ∙ ap (byte_over (get_or adopted (i / 65536 % 4096) None) (i % 65536)) same
+          ∙ ap (λ (rs : List (Option (List ℕ))). byte_over (get_or rs (i / 65536 % 4096) None) (i % 65536) (byte_in (rows f.chunks.items) i)) all
           ∙ ap (λ (o : Option (List ℕ)). byte_over o (i % 65536) (byte_in (rows f.chunks.items) i)) (sym (own_there chunk k (i / 65536) refl (sym is)))
       | inr other ↦
           laid.ensures.others i (λ is. other (omega (arith, is))) ∙ same

@@ -1,45 +1,53 @@
-use Rattle.std.proofs.Common.{◌≡◌, ℕ, ◌+◌, ◌/◌, ◌%◌, List, [], ◌∷◌, ◌++◌, length, get_or, Option, None, sym, ap, ◌∙◌, inl, inr, arith, length-append}
+use Rattle.std.proofs.Common.{◌≡◌, ℕ, ◌+◌, ◌/◌, ◌%◌, ◌<◌, ◌≤◌, List, [], length, get_or, None, Option, sym, ap, ◌∙◌, inl, inr, arith}
 use Rattle.std.proofs.lemmas.Bool.{cases_eq}
+use Rattle.std.proofs.lemmas.List.{length-map}
 use Rattle.guest_windows.specs.declared.page.Page.{Page}
-use Rattle.guest_windows.specs.Pages.{rows, byte_in}
-use Rattle.guest_windows.specs.Drafts.{own_rows, row_of, byte_over}
-use Rattle.guest_windows.proofs.DraftChunks.{rows_before, rows_last}
+use Rattle.guest_windows.specs.Chunks.{page_rows}
+use Rattle.guest_windows.specs.Pages.{rows, byte_in, chunk_row}
+use Rattle.guest_windows.specs.Drafts.{own_rows, numbered, byte_over}
+use Rattle.guest_windows.proofs.Numbers.{row_numbered, same_page}
 use Rattle.guest_windows.proofs.frame.Frame.adopt_pages.Goals as goal
 
-pub loop-page-preserved : goal.loop-page-preserved
-loop-page-preserved c =
-    let inv = c.loop-page.invariant in
-    let left = c.pop.new.self.items in
-    let page = c.in-Some.page in
-    let all = own_rows c.args.pages.items in
-    let items : c.loop-page.pages.items ≡ left ++ page ∷ [] = c.in-Some.ensures.items in
-    let n : ℕ = length left in
-    let long : length c.loop-page.pages.items ≡ n + 1 = omega (arith, ap length items, length-append left (page ∷ [])) in
-    let few = inv.few in
-    let whole = c.requires.whole in
-    let count : c.len.result ≡ n = omega (arith, c.len.ensures, c.pop.new.self.ok.0) in
+pub loop-at-preserved : goal.loop-at-preserved
+loop-at-preserved c =
+    let l = c.loop-at in
+    let inv = l.invariant in
+    let at : ℕ = l.at in
+    let numbers : List ℕ = c.args.numbers.now in
+    let laid : List Page = c.args.laid.now in
+    let left : List Page = l.laid in
+    let n : ℕ = get_or numbers at 0 in
+    let inside : at < length numbers = omega (arith, c.loop-at-test.true) in
     let done = c.adopt_page.ensures in
-    let row : row_of page ≡ get_or all n None =
-    sym (rows_last left page) ∙ ap (λ (ps : List (Option Page)). get_or (own_rows ps) n None) (sym items) ∙ inv.left n (omega (arith, long)) in
+    let is = c.requires.numbered in
+    let whole = c.requires.whole in
+    let total = c.requires.count in
+    let few : n ≤ length laid = is.1 at in
+    let long : length (page_rows left) ≡ length (page_rows laid) =
+    length-map left (λ (p : Page). p.bytes.items) ∙ inv.count ∙ sym (length-map laid (λ (p : Page). p.bytes.items)) in
+    let same : numbered (page_rows left) n ≡ get_or (own_rows numbers laid) at None =
+    same_page (page_rows laid) (page_rows left) n (omega (arith, few, length-map laid (λ (p : Page). p.bytes.items))) long
+    (λ k next. inv.left at k (omega arith) next) ∙ sym (row_numbered numbers laid at) in
     record {
-      left = λ k lt. sym (rows_before left page k lt) ∙ ap (λ (ps : List (Option Page)). get_or (own_rows ps) k None) (sym items)
-          ∙ inv.left k (omega (arith, long, lt));
-      few = omega (arith, long, few);
-      done = λ i lt same past. elim (cases_eq (i / 65536 % 4096) n) [
-        | inl is ↦
-            done.here i (omega (arith, lt, done.len)) (omega (arith, same, is, whole, count))
-            ∙ ap (λ (o : Option (List ℕ)). byte_over o (i % 65536) (byte_in (rows c.loop-page.self.chunks.items) i))
-            (row ∙ ap (λ (k : ℕ). get_or all k None) (sym is))
-            ∙ ap (byte_over (get_or all (i / 65536 % 4096) None) (i % 65536)) (inv.coming i same (omega (arith, is, long)))
+      left = λ j k past next.
+          done.left k (λ this. absurd (omega (arith, past, is.2 at j (omega (arith, this)) (next ∙ sym this))))
+          ∙ inv.left j k (omega (arith, past)) next;
+      count = done.count ∙ inv.count;
+      done = λ i lt chunk low. elim (cases_eq (i / 65536 % 4096) at) [
+        | inl this ↦
+            done.here i (omega (arith, lt, done.len)) (omega (arith, this, chunk, whole))
+            ∙ ap (λ (x : ℕ). byte_over (numbered (page_rows left) n) (i % 65536) x) (inv.coming i chunk (omega (arith, this)))
+            ∙ ap (λ (o : Option (List ℕ)). byte_over o (i % 65536) (byte_in (rows c.args.self.now.chunks.items) i))
+            (same ∙ ap (λ (k : ℕ). get_or (own_rows numbers laid) k None) (sym this))
         | inr other ↦
-            done.others i (λ is. other (omega (arith, is, same, whole, count, long, few)))
-            ∙ inv.done i (omega (arith, lt, done.len)) same (omega (arith, other, past, long))
+            done.others i (λ this. other (omega (arith, this, chunk, whole, inside, total)))
+            ∙ inv.done i (omega (arith, lt, done.len)) chunk (omega (arith, other, low))
       ];
-      coming = λ i same low. done.others i (λ is. omega (arith, is, same, whole, count, low, long, few)) ∙ inv.coming i same (omega (arith, low, long));
-      others = λ i out. done.others i (λ is. out (omega (arith, is, whole, count, long, few))) ∙ inv.others i out;
+      coming = λ i chunk past. done.others i (λ this. omega (arith, this, chunk, whole, past, inside, total)) ∙ inv.coming i chunk (omega (arith, past));
+      others = λ i out. done.others i (λ this. out (omega (arith, this, whole, inside, total))) ∙ inv.others i out;
       held =
-          let at : c.args.first / 4096 ≡ (c.args.first + c.len.result) / 4096 = omega (arith, whole, count, long, few) in
-          ap (λ (k : ℕ). length (get_or (rows c.adopt_page.new.self.chunks.items) k [])) at ∙ done.chunk;
+          let chunk : c.args.first / 4096 ≡ (c.args.first + at) / 4096 = omega (arith, whole, inside, total) in
+          ap (λ (k : ℕ). length (get_or (rows c.adopt_page.new.self.chunks.items) k [])) chunk ∙ done.chunk;
       base = done.base ∙ inv.base;
       len = done.len ∙ inv.len;
     }

@@ -11,4 +11,8 @@ loop-page-preserved c =
         | inl before ↦ l.invariant.zero i low before
         | inr at ↦ c.next_from-next.ensures.zero i (omega (arith, at)) high
       ];
+      skipped = λ page low high. elim (cases_lt page l.page) [
+        | inl before ↦ l.invariant.skipped page low before
+        | inr at ↦ c.next_from-next.ensures.skipped page (omega (arith, at)) high
+      ];
     }

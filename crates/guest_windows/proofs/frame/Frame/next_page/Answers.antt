@@ -1,5 +1,6 @@
-use Rattle.std.proofs.Common.{◌+◌, ◌-◌, arith, inl, inr}
+use Rattle.std.proofs.Common.{◌≡◌, ℕ, ◌+◌, ◌-◌, ◌*◌, ◌/◌, ◌<◌, length, refl, ap, ◌∙◌, arith, inl, inr}
 use Rattle.std.proofs.lemmas.Bool.{cases_lt}
+use Rattle.guest_windows.specs.Pages.{rows, page_row}
 use Rattle.guest_windows.proofs.Holding.{zero_in, has_in}
 use Rattle.guest_windows.proofs.frame.Frame.next_page.Goals as goal
 
@@ -26,3 +27,23 @@ returns-clause-zero c =
 pub returns-clause-part : goal.returns-clause-part
 returns-clause-part c some =
     has_in c.args.self.now c.max-at.result (c.min-end.result - c.max-at.result) (omega (arith, some, c.min-end.ensures))
+
+pub returns-then-self-at-clause-skipped : goal.returns-then-self-at-clause-skipped
+returns-then-self-at-clause-skipped c i below low high =
+    c.next_held-page.ensures.skipped (i / 65536) (omega (arith, low, c.saturating_sub-start.ensures))
+    (omega (arith, below, low, c.saturating_sub-start.ensures, c.if-self-at.true, c.max-at.ensures))
+
+pub returns-clause-skipped : goal.returns-clause-skipped
+returns-clause-skipped c i below low high =
+    c.next_held-page.ensures.skipped (i / 65536) (omega (arith, low, c.saturating_sub-start.ensures))
+    (omega (arith, below, low, high, c.saturating_sub-start.ensures, c.max-at.ensures))
+
+pub returns-clause-held : goal.returns-clause-held
+returns-clause-held c some =
+    let f = c.args.self.now in
+    let at : ℕ = c.max-at.result in
+    let page : ℕ = c.next_held-page.result in
+    let below : at < f.len = omega (arith, c.if-self-at.false) in
+    let inside : 65536 * page < f.len = omega (arith, below, c.max-at.ensures) in
+    let is : at / 65536 ≡ page = omega (arith, inside, c.max-at.ensures, c.saturating_sub-start.ensures, c.next_held-page.ensures.from) in
+    (at, below, refl, ap (λ (q : ℕ). length (page_row (rows f.chunks.items) q)) is ∙ c.next_held-page.ensures.held inside)

@@ -8,7 +8,7 @@ returns-in-Some-clause-found g c =
 
 pub returns-in-Some-clause-cost : goal.returns-in-Some-clause-cost
 returns-in-Some-clause-cost g c =
-    rw (← c.self.view_is) (best_cost c.self.inside.bitmap c.self.inside.lpi_bits c.args.config.now.bytes c.args.steps.now c.first_by_priority.new.steps
+    rw (← c.self.view_is) (best_cost c.self.inside.bitmap c.self.inside.lpi_bits c.args.steps.now c.first_by_priority.new.steps
     c.self.invariant.size c.first_by_priority.ensures.words c.first_by_priority.ensures.cost)
 
 pub returns-in-None-clause-found : goal.returns-in-None-clause-found
@@ -17,5 +17,5 @@ returns-in-None-clause-found g c =
 
 pub returns-in-None-clause-cost : goal.returns-in-None-clause-cost
 returns-in-None-clause-cost g c =
-    rw (← c.self.view_is) (best_cost c.self.inside.bitmap c.self.inside.lpi_bits c.args.config.now.bytes c.args.steps.now c.first_by_priority.new.steps
+    rw (← c.self.view_is) (best_cost c.self.inside.bitmap c.self.inside.lpi_bits c.args.steps.now c.first_by_priority.new.steps
     c.self.invariant.size c.first_by_priority.ensures.words c.first_by_priority.ensures.cost)

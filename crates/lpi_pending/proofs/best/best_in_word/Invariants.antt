@@ -1,14 +1,12 @@
 use Rattle.std.proofs.Common.{◌-◌, ◌+◌, ◌*◌, ◌≤◌, ℕ}
-use Rattle.lpi_pending.specs.Priorities.{IsBest}
-use Rattle.lpi_pending.specs.Searches.{count_in}
-use Rattle.lpi_pending.specs.Summaries.{is_ready}
-use Rattle.lpi_pending.proofs.best.best_with_word.Given as goal
+use Rattle.lpi_pending.specs.Priorities.{IsBest, priorities_before}
+use Rattle.lpi_pending.proofs.best.best_in_word.Given as goal
 
 abbrev pub invariant-loop-from : goal.invariant-loop-from
 invariant-loop-from g l = record {
   within : l.from ≤ 64;
   best : (mask : ℕ) → IsBest l.words l.config.bytes mask (64 * l.at) l.fn.before → IsBest l.words l.config.bytes mask (64 * l.at + l.from) l.best;
-  cost : l.steps ≤ l.initial.steps + count_in (is_ready l.words l.config.bytes) (64 * l.at) l.from;
+  cost : l.steps + priorities_before l.best.limit ≤ l.initial.steps + priorities_before l.fn.before.limit;
 }
 
 abbrev pub decreases-loop-from : goal.decreases-loop-from
