@@ -18,10 +18,10 @@ use Rattle.trace_check.proofs.Following.{HasNext, has_next, next_means}
 use Rattle.trace_check.proofs.Going.{IsAt, IsSettled, at_first, at_opened, opened_settled, at_taken, settled_settled}
 use Rattle.trace_check.proofs.Lists.{after_more, legal_reply}
 use Rattle.trace_check.proofs.Parts.{part_front}
-use Rattle.its_draw.specs.Fields.{HasCall, progress}
+use Rattle.trace_check.specs.Fields.{HasCall, progress}
 use Rattle.its_draw.specs.Marks.{mark_of}
 use Rattle.its_draw.specs.Replays.{ShowsNext, ShowsRun, entry_mark, lines, marks, marks_of, shown_mark, shown_told, told, told_of}
-use Rattle.its_draw.specs.declared.cursor.Cursor.{Cursor}
+use Rattle.trace_check.specs.declared.cursor.Cursor.{Cursor}
 use Rattle.its_draw.specs.declared.drawing.Shown.{Shown}
 
 -- ---- lists

@@ -4,6 +4,5 @@ pub mod Elements
 pub mod Calls
 pub mod Rest
 pub mod Svg
-pub mod Fields
 pub mod Replays
 pub mod Draws

@@ -3,7 +3,6 @@
 #![tactic(auto)]
 
 mod calls;
-mod cursor;
 mod drawing;
 mod elements;
 mod events;

@@ -1,11 +1,10 @@
 //! The calls of a report made again, and what each did.
 ghost use Rattle.std.specs.Prelude.{◌≡◌, [], IfOk};
 ghost use Rattle.its_plain.specs.Answer as plain;
-ghost use Rattle.its_draw.specs.Fields.{IsCounted, progress};
+ghost use Rattle.trace_check.specs.Fields.{IsCounted, progress};
 ghost use Rattle.its_draw.specs.Replays as spec;
 ghost use Rattle.its_draw.specs.Replays.{ShowsNext, ShowsRun};
 
-use crate::cursor::Cursor;
 use crate::drawing::Shown;
 use crate::events::{EventKey, Rows};
 use crate::mark::{Mark, mark_of};
@@ -16,6 +15,7 @@ use its_history::{EntryLine, told_text};
 use its_plain::{Call, Reply, Route};
 use owned_machine::Machine;
 use std::alloc::{AllocError, Global};
+use trace_check::Cursor;
 
 /// Makes the calls of a leg again, of which the first stands in this column. Each is shown as it is
 /// answered, where the lines are those of a run of the leg.

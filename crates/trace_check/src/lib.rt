@@ -9,5 +9,6 @@ mod legs;
 mod pending;
 mod verdict;
 
+pub use cursor::{Cursor, Next};
 pub use legs::check;
 pub use verdict::{Difference, Verdict};

@@ -1,5 +1,5 @@
 use Rattle.std.proofs.Common.{refl}
-use Rattle.its_draw.specs.Fields.{progress}
+use Rattle.trace_check.specs.Fields.{progress}
 use Rattle.its_draw.proofs.Shows.{told_more, going_none, going_more, going_all}
 use Rattle.its_draw.proofs.replay.show_entries.Goals as goal
 

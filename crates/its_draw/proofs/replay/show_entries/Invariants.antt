@@ -1,5 +1,5 @@
 use Rattle.std.proofs.Common.{◌≡◌, take}
-use Rattle.its_draw.specs.Fields.{IsCounted, progress}
+use Rattle.trace_check.specs.Fields.{IsCounted, progress}
 use Rattle.its_draw.specs.Replays.{lines, told}
 use Rattle.its_draw.proofs.Shows.{Going}
 use Rattle.its_draw.proofs.replay.show_entries.Given as goal

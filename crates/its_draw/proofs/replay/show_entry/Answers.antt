@@ -1,6 +1,6 @@
 use Rattle.std.proofs.Common.{◌≡◌, Some, sym}
 use Rattle.trace_check.specs.Cursors.{next_call}
-use Rattle.its_draw.specs.Fields.{progress}
+use Rattle.trace_check.specs.Fields.{progress}
 use Rattle.its_draw.proofs.Shows.{has_call}
 use Rattle.its_draw.proofs.replay.show_entry.Goals as goal
 
