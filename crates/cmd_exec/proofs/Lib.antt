@@ -13,4 +13,6 @@ mod Adding
 pub mod Executed
 pub mod Sets
 pub mod Start
+pub mod Reloaded
+pub mod Left
 pub mod Below

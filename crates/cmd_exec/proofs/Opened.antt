@@ -10,6 +10,7 @@ use Rattle.its_plain.specs.Commands.{◌>>=◌, ensure, event_at, conf_reread_at
 use Rattle.lpi_config.specs.Conf.{conf_state}
 use Rattle.lpi_config.specs.Conf.{Conf}
 use Rattle.cmd_exec.specs.InHand.{conf_as, conf_by}
+use Rattle.cmd_exec.specs.Reloaded.{with_read}
 use Rattle.its_plain.specs.declared.call.Reason.TheVariants.{NoDevice, EventRange, NoEvent}
 
 pub event_at_is : (m : Maps) (dev ev : ℕ)
@@ -17,10 +18,6 @@ pub event_at_is : (m : Maps) (dev ev : ℕ)
     ok_or (event_of m dev ev) NoEvent)
 unfolding event_at
 event_at_is m dev ev = refl
-
-abbrev pub with_read : ℕ → ConfState → Option ℕ → ConfState
-with_read intid c None = c
-with_read intid c (Some byte) = record c { config = with_config_byte c.config intid byte }
 
 pub conf_reread_at_is : (memory : List Window) (intid : ℕ) (c : ConfState) → conf_reread_at memory intid c ≡ cond c.bases.on
     (with_read intid c (byte_at memory (c.bases.prop.table.0 + (intid - 8192)))) c

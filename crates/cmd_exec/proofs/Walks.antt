@@ -20,9 +20,9 @@ use Rattle.lpi_pending.specs.InHand.{RedistParts, conf_in}
 use Rattle.cmd_exec.specs.InHand.{conf_by, pend_changed, confs_changed, with_set, with_cleared, lpis_in, lpi_moved_in, lpis_moved_in, takes_lpi, CanRereadAll}
 use Rattle.cmd_exec.specs.InHand.{is_on_in}
 use Rattle.cmd_exec.specs.Ready.{TakesAll, HeldCanReread, CanEachReread}
+use Rattle.cmd_exec.specs.Reloaded.{with_read}
 use Rattle.cmd_exec.specs.Walked.{lpis_of}
 use Rattle.cmd_exec.proofs.InHand.{pend_takes, pend_on, conf_here, confs_twice, confs_none}
-use Rattle.cmd_exec.proofs.Opened.{with_read}
 
 -- ---- an event of the collection comes first
 

@@ -6,3 +6,5 @@ pub mod Ready
 pub mod Walked
 pub mod Executed
 pub mod Met
+pub mod Reloaded
+pub mod LastRead

@@ -4,15 +4,18 @@
 //! shares the machine holds some of them.
 #![tactic(auto)]
 
+mod batch;
 mod carry_out;
 mod collections;
 mod effect;
+mod eight;
 mod execute;
 mod lpis;
 mod met;
 mod needed;
 mod planning;
 mod registers;
+mod rereading;
 mod room;
 
 pub use effect::Planned;
