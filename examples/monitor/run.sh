@@ -1,7 +1,8 @@
 #!/usr/bin/env bash
 # Builds and runs the monitors over the library, and compares what they print.
 #
-# usage: examples/monitor/run.sh [times]                        x86-64; times also tells how long calls take
+# usage: examples/monitor/run.sh [times]                        x86-64; times also tells how long calls take, those too
+#                                                               whose cost a guest can choose
 #        examples/monitor/run.sh rates|stack|figures [SHARED [ARCHIVE]]
 #                                                x86-64: signals of threads, the stack of each call, or all of docs/LIBRARY.md
 #        examples/monitor/run.sh arm ARCHIVE [SHARED]             aarch64, under qemu-user
@@ -156,6 +157,8 @@ if command -v "$compiler" >/dev/null; then
     if [ "$task" = times ]; then
         build times times.c heap.c && "$work/times"
         tell "times" $?
+        build costs costs.c heap.c && "$work/costs"
+        tell "what a guest can choose" $?
     fi
 else
     echo "$compiler isn't there: the monitor in C is left out"
