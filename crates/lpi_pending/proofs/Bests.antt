@@ -20,7 +20,7 @@ use Rattle.lpi_pending.specs.PendingSets.{lpi_bit, lpis_of, busy_words, summary_
 use Rattle.lpi_pending.specs.declared.best.Best.{Best}
 use Rattle.lpi_pending.proofs.Firsts.{used_words}
 use Rattle.lpi_pending.proofs.Counts.{count_in-add, count_in-some}
-use Rattle.lpi_pending.proofs.Searching.{ready_bit, none_in_unused, unused_words, none_in_unused_words, used_so_far}
+use Rattle.lpi_pending.proofs.Searching.{none_in_unused, unused_words, none_in_unused_words, used_so_far}
 use Rattle.lpi_pending.proofs.Sets.{IsWithin, those, within-first, within-next, within-later}
 
 -- ---- bit by bit
@@ -91,13 +91,9 @@ priorities_less config x limit lt =
 
 -- ---- a word
 
--- bit by bit the word that is left of a word and of its enabled LPIs
+-- bit by bit which LPIs of a word are ready
 abbrev pub ReadyWord : List ℕ → List ℕ → ℕ → ℕ → Type 0
-ReadyWord words config j ready = (i : ℕ) → i < 64 → is_ready words config (64 * j + i) ≡ bit_of ready i
-
-pub ready_word : (words config : List ℕ) (j enabled : ℕ) → ((i : ℕ) → i < 64 → bit_of enabled i ≡ is_enabled config (8192 + 64 * j + i))
-    → ReadyWord words config j (bit_and (get_or words j 0) enabled)
-ready_word words config j enabled bits i lt = ready_bit words config j enabled i lt (bits i lt)
+ReadyWord words config j ready = (i : ℕ) → i < 64 → bit_of ready i ≡ is_ready words config (64 * j + i)
 
 second_false : (a b : Bool) → a ≡ true → (a && b) ≡ false → b ≡ false
 second_false true b is both = both
@@ -109,7 +105,7 @@ none_left words config limit j ready from to le bits none y low high r =
     let split : 64 * j + (y - 64 * j) ≡ y = omega arith in
     let place : 8192 + 64 * j + (y - 64 * j) ≡ 8192 + y = omega arith in
     let within : y - 64 * j < 64 = omega arith in
-    let is : bit_of ready (y - 64 * j) ≡ true = sym (bits (y - 64 * j) within) ∙ ap (is_ready words config) split ∙ r in
+    let is : bit_of ready (y - 64 * j) ≡ true = bits (y - 64 * j) within ∙ ap (is_ready words config) split ∙ r in
     let not_below : nat_lt (priority_of config (8192 + 64 * j + (y - 64 * j))) limit ≡ false =
     second_false (bit_of ready (y - 64 * j)) (nat_lt (priority_of config (8192 + 64 * j + (y - 64 * j))) limit) is
     (none (y - 64 * j) (omega arith) (omega arith)) in
@@ -135,7 +131,7 @@ next_lpi_is words config limit j ready from bit priority bits first same =
     record {
       from = first.from;
       below = lt;
-      ready = bits bit lt ∙ met.0;
+      ready = sym (bits bit lt) ∙ met.0;
       same = same;
       less = omega (arith, less, same);
       before = none_left words config limit j ready from bit (omega (arith, lt)) bits first.before;

@@ -44,29 +44,27 @@ ready_bit words config j enabled i lt is =
     rw (word, bit, place, bit_of-and (get_or words j 0) enabled i, is) refl
 
 pub first_in_word :
-    (words config : List ℕ) (j enabled : ℕ) → ((i : ℕ) → i < 64 → bit_of enabled i ≡ is_enabled config (8192 + 64 * j + i))
-    → bit_and (get_or words j 0) enabled ≢ 0 → bit_and (get_or words j 0) enabled < 2 ^ 64
-    → IsFirstIn (is_ready words config) (64 * j) (64 * j + 64) (64 * j + trailing_zeros w64 (bit_and (get_or words j 0) enabled))
-first_in_word words config j enabled bits some small =
-    let low = lowest (bit_and (get_or words j 0) enabled) some small in
+    (words config : List ℕ) (j ready : ℕ) → ((i : ℕ) → i < 64 → bit_of ready i ≡ is_ready words config (64 * j + i)) → ready ≢ 0 → ready < 2 ^ 64
+    → IsFirstIn (is_ready words config) (64 * j) (64 * j + 64) (64 * j + trailing_zeros w64 ready)
+first_in_word words config j ready bits some small =
+    let low = lowest ready some small in
     record {
       from = omega arith;
       below = omega (arith, low.below);
-      met = ready_bit words config j enabled _ low.below (bits _ low.below) ∙ low.met;
+      met = sym (bits _ low.below) ∙ low.met;
       before = λ y from below.
           let split : 64 * j + (y - 64 * j) ≡ y = omega arith in
           let within : y - 64 * j < 64 = omega (arith, low.below) in
-          ap (is_ready words config) (sym split) ∙ ready_bit words config j enabled (y - 64 * j) within (bits _ within) ∙ low.before (y - 64 * j) (omega arith);
+          ap (is_ready words config) (sym split) ∙ sym (bits (y - 64 * j) within) ∙ low.before (y - 64 * j) (omega arith);
     }
 
 pub none_in_word :
-    (words config : List ℕ) (j enabled : ℕ) → ((i : ℕ) → i < 64 → bit_of enabled i ≡ is_enabled config (8192 + 64 * j + i))
-    → bit_and (get_or words j 0) enabled ≡ 0 → NoneIn (is_ready words config) (64 * j) (64 * j + 64)
-none_in_word words config j enabled bits none y from below =
+    (words config : List ℕ) (j ready : ℕ) → ((i : ℕ) → i < 64 → bit_of ready i ≡ is_ready words config (64 * j + i)) → ready ≡ 0
+    → NoneIn (is_ready words config) (64 * j) (64 * j + 64)
+none_in_word words config j ready bits none y from below =
     let split : 64 * j + (y - 64 * j) ≡ y = omega arith in
     let within : y - 64 * j < 64 = omega arith in
-    ap (is_ready words config) (sym split) ∙ ready_bit words config j enabled (y - 64 * j) within (bits _ within)
-    ∙ ap (λ n. bit_of n (y - 64 * j)) none ∙ bit_of-zero (y - 64 * j)
+    ap (is_ready words config) (sym split) ∙ sym (bits (y - 64 * j) within) ∙ ap (λ n. bit_of n (y - 64 * j)) none ∙ bit_of-zero (y - 64 * j)
 
 pub none_in_unused : (words config : List ℕ) (j : ℕ) → is_used words j ≡ false → NoneIn (is_ready words config) (64 * j) (64 * j + 64)
 none_in_unused words config j unused y from below =
@@ -278,3 +276,14 @@ pub cost_to_end :
     (words : List ℕ) (a start steps last : ℕ) → 64 * a ≤ length words → steps ≤ start + a + count_in (is_used words) 0 (64 * a)
     → last + a ≡ steps + length words / 64 → last ≤ start + length words / 64 + count_in (is_used words) 0 (length words)
 cost_to_end words a start steps last le so_far walk = omega (arith, used_so_far (is_used words) (64 * a) (length words) le, so_far, le, walk)
+
+-- so it stops at the group of what is found
+pub cost_to_found :
+    (words config : List ℕ) (group start last first : ℕ) → IsFirstIn (is_ready words config) (4096 * group) (4096 * group + 4096) first
+    → last ≤ start + (group + 1) + count_in (is_used words) 0 (64 * (group + 1))
+    → last ≤ start + (first / 4096 + 1) + count_in (is_used words) 0 (64 * (first / 4096 + 1))
+cost_to_found words config group start last first is cost =
+    let low = is.from in
+    let high = is.below in
+    let same : group ≡ first / 4096 = omega (arith, low, high) in
+    subst (λ (g : ℕ). last ≤ start + (g + 1) + count_in (is_used words) 0 (64 * (g + 1))) same cost

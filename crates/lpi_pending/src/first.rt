@@ -1,5 +1,5 @@
 //! The first LPI that is pending and enabled.
-ghost use Rattle.std.specs.Prelude.{◌≡◌, ◌+◌, ◌*◌, ◌/◌, ◌≤◌, ◌<◌, ℕ, length};
+ghost use Rattle.std.specs.Prelude.{◌≡◌, ◌+◌, ◌*◌, ◌/◌, ◌≤◌, ◌<◌, ℕ, IfSome, length};
 ghost use Rattle.its_types.specs.Bits.{bit_of};
 ghost use Rattle.lpi_pending.specs.Searches.{FirstIn, count_in};
 ghost use Rattle.lpi_pending.specs.Summaries.{is_used, is_ready};
@@ -10,12 +10,14 @@ use its_types::with_bit;
 use std::sync::ledger::Ledger;
 
 // The first bit that is 1 and whose LPI is enabled. Each group of words is a step, once, and each
-// word that a group leads to.
+// word that a group leads to; none past the group of what is found.
 pub fn first_ready<L: Ledger>(looks: &Looks<L>, steps: &mut Steps<L>) -> Option<usize>
     ensures found { FirstIn (is_ready looks.now.words looks.now.config) 0
         (64 * length looks.now.words) result }
     ensures cost { steps.new ≤ steps.old + length looks.now.words / 64
         + count_in (is_used looks.now.words) 0 (length looks.now.words) }
+    ensures stops { IfSome result (λ first. steps.new ≤ steps.old + (first / 4096 + 1)
+        + count_in (is_used looks.now.words) 0 (64 * (first / 4096 + 1))) }
 {
     let mut at = 0;
     while let Some(used) = looks.next_used(at, steps) {

@@ -54,7 +54,7 @@ impl<'a, L: Ledger> Model for Looks<'a, L> {
 }
 
 impl<'a, L: Ledger> Looks<'a, L> {
-    ghost use Rattle.std.specs.Prelude.{◌/◌, MatchOption};
+    ghost use Rattle.std.specs.Prelude.{◌/◌, ℕ, MatchOption};
     ghost use Rattle.lpi_pending.specs.Looks.{IsNextUsed, IsNextWord, IsNextLpi};
     ghost use Rattle.lpi_pending.specs.Priorities.{NoneBelow, IsNextGroup};
     ghost use Rattle.lpi_pending.specs.Searches.{NoneIn};
@@ -107,8 +107,7 @@ impl<'a, L: Ledger> Looks<'a, L> {
         ensures cost { steps.new ≡ steps.old + 1 }
     {
         steps.add(1);
-        let words = self.words;
-        let ready = words[at] & self.config.enabled_word(at);
+        let ready = self.ready(at);
         if ready == 0 {
             None
         } else {
@@ -150,8 +149,7 @@ impl<'a, L: Ledger> Looks<'a, L> {
         ensures cost { steps.new ≡ steps.old + 1 }
     {
         steps.add(1);
-        let words = self.words;
-        let ready = words[at] & self.config.enabled_word(at);
+        let ready = self.ready(at);
         let Some(bit) = next_in_word(self.config, at, ready, from, limit) else {
             return None;
         };
@@ -159,6 +157,18 @@ impl<'a, L: Ledger> Looks<'a, L> {
             bit,
             priority: priority(self.config, 64 * at + bit as usize),
         })
+    }
+
+    // Which of a word's bits are 1 and their LPIs enabled.
+    #[inline(always)]
+    fn ready(&self, at: usize) -> u64
+        requires { at < length self.now.words }
+        ensures bits { (k : ℕ) → k < 64
+            → bit_of result k ≡ is_ready self.now.words self.now.config (64 * at + k) }
+        ensures small { at < 65536 }
+    {
+        let words = self.words;
+        words[at] & self.config.enabled_word(at)
     }
 
     // The groups are looked at in rising order, each at most once.

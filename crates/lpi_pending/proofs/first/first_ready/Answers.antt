@@ -1,5 +1,5 @@
 use Rattle.std.proofs.Common.{◌+◌, arith}
-use Rattle.lpi_pending.proofs.Searching.{found_first, none_so_far, none_at_all, cost_so_far, cost_in_all, cost_to_end}
+use Rattle.lpi_pending.proofs.Searching.{found_first, none_so_far, none_at_all, cost_so_far, cost_in_all, cost_to_end, cost_to_found}
 use Rattle.lpi_pending.proofs.first.first_ready.Goals as goal
 
 pub returns-in-Some-first_in_group-clause-found : goal.returns-in-Some-first_in_group-clause-found
@@ -15,6 +15,14 @@ returns-in-Some-first_in_group-clause-cost g c =
     (cost_so_far c.args.looks.now.words c.loop-used.at c.in-Some.used.group c.in-Some.used.words c.args.steps.now c.loop-used.steps c.next_used.new.steps
     c.first_in_group.new.steps
     next c.loop-used.invariant.cost c.in-Some.ensures.cost c.first_in_group.ensures.cost)
+
+pub returns-in-Some-first_in_group-clause-stops : goal.returns-in-Some-first_in_group-clause-stops
+returns-in-Some-first_in_group-clause-stops g c =
+    cost_to_found c.args.looks.now.words c.args.looks.now.config c.in-Some.used.group c.args.steps.now c.first_in_group.new.steps
+    c.in-Some-first_in_group.first c.in-Some-first_in_group.ensures.found
+    (cost_so_far c.args.looks.now.words c.loop-used.at c.in-Some.used.group c.in-Some.used.words c.args.steps.now c.loop-used.steps c.next_used.new.steps
+    c.first_in_group.new.steps
+    c.in-Some.ensures.found c.loop-used.invariant.cost c.in-Some.ensures.cost c.first_in_group.ensures.cost)
 
 pub loop-used-preserved : goal.loop-used-preserved
 loop-used-preserved g c =
