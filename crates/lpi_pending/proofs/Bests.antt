@@ -15,11 +15,11 @@ use Rattle.lpi_config.proofs.LeastIn.{least_below}
 use Rattle.lpi_pending.specs.Searches.{NoneIn, IsFirstIn, count_in}
 use Rattle.lpi_pending.specs.Summaries.{is_nonzero, is_used, is_ready, IsSummary}
 use Rattle.lpi_pending.specs.Looks.{IsNextWord, IsNextLpi}
-use Rattle.lpi_pending.specs.Priorities.{IsBest, IsFound, NoneBelow, IsNextGroup, is_left, is_left_of_group, priorities_before}
+use Rattle.lpi_pending.specs.Priorities.{IsBest, IsFound, NoneBelow, IsNextGroup, is_left, is_left_of_group, is_below, priorities_before}
 use Rattle.lpi_pending.specs.PendingSets.{lpi_bit, lpis_of, busy_words, summary_words}
 use Rattle.lpi_pending.specs.declared.best.Best.{Best}
 use Rattle.lpi_pending.proofs.Firsts.{used_words}
-use Rattle.lpi_pending.proofs.Counts.{count_in-add, count_in-some}
+use Rattle.lpi_pending.proofs.Counts.{count_in-le, count_in-add, count_in-some}
 use Rattle.lpi_pending.proofs.Searching.{none_in_unused, unused_words, none_in_unused_words, used_so_far}
 use Rattle.lpi_pending.proofs.Sets.{IsWithin, those, within-first, within-next, within-later}
 
@@ -223,8 +223,7 @@ next_word_is words config limit from at bit used bits first le within small befo
       from = omega (arith, le, low);
       below = omega (arith, within, lt);
       small = omega (arith, within, small, lt);
-      used = sym (bits bit lt)
-          ∙ (and_parts (bit_of used bit) (nat_lt (least_priority config (8192 + 64 * (64 * (at / 64) + bit)) 64) limit) first.met).0;
+      met = ap (λ b. b && nat_lt (least_priority config (8192 + 64 * (64 * (at / 64) + bit)) 64) limit) (sym (bits bit lt)) ∙ first.met;
       before = none_below_and words config limit (64 * from) (64 * at) (64 * (64 * (at / 64) + bit)) before
           (λ y from' below. none_in_lefts words config limit (at / 64) used (at % 64) bit (omega (arith, lt)) bits first.before y (omega (arith, from')) below);
     }
@@ -430,22 +429,40 @@ pub best_to_word : (words config : List ℕ) (mask from at : ℕ) (best : Best) 
 best_to_word words config mask from at best next is =
     best_past words config mask (64 * from) (64 * at) best (let le = next.from in omega (arith, le)) next.before is
 
-pub cost_with_word : (words config : List ℕ) (limit from at start mask steps after last limit' : ℕ) → IsNextWord words config limit from at
-    → steps + priorities_before limit ≤ start + priorities_before mask + from / 64 + 2 * count_in (is_used words) 0 from
-    → after + from / 64 ≡ steps + at / 64 + 1 → last + priorities_before limit' ≤ after + priorities_before limit + 1
-    → last + priorities_before limit' ≤ start + priorities_before mask + (at + 1) / 64 + 2 * count_in (is_used words) 0 (at + 1)
-cost_with_word words config limit from at start mask steps after last limit' next so_far walk turn =
+-- with an LPI before a higher limit too
+below_mask : (words config : List ℕ) (limit mask at : ℕ) → limit ≤ mask → is_below words config limit at ≡ true → is_below words config mask at ≡ true
+below_mask words config limit mask at le met =
+    let both = and_parts (is_used words at) (nat_lt (least_priority config (8192 + 64 * at) 64) limit) met in
+    let lt = ltb-true (least_priority config (8192 + 64 * at) 64) limit both.1 in
+    rw (both.0, lt-ltb (least_priority config (8192 + 64 * at) 64) mask (omega (arith, lt, le))) refl
+
+pub cost_with_word : (words config : List ℕ) (from at start mask steps after last limit' : ℕ) (best : Best)
+    → IsNextWord words config best.limit from at → IsBest words config mask (64 * from) best
+    → steps + priorities_before best.limit ≤ start + priorities_before mask + from / 64 + 2 * count_in (is_below words config mask) 0 from
+    → after + from / 64 ≡ steps + at / 64 + 1 → last + priorities_before limit' ≤ after + priorities_before best.limit + 1
+    → last + priorities_before limit' ≤ start + priorities_before mask + (at + 1) / 64 + 2 * count_in (is_below words config mask) 0 (at + 1)
+cost_with_word words config from at start mask steps after last limit' best next is so_far walk turn =
     let le = next.from in
-    let more = one_more (is_used words) from at next.from next.used in
+    let below = limit_below words config mask (64 * from) best.at best.limit is.found in
+    let more = one_more (is_below words config mask) from at next.from (below_mask words config best.limit mask at below next.met) in
     let groups : at / 64 ≤ (at + 1) / 64 = omega arith in
     omega (arith, more, groups, so_far, walk, turn, le)
 
-pub cost_of_all : (words : List ℕ) (from start mask steps limit last : ℕ) → from ≤ length words → mask < 256
-    → steps + priorities_before limit ≤ start + priorities_before mask + from / 64 + 2 * count_in (is_used words) 0 from
+pub cost_of_all : (words config : List ℕ) (from start mask steps limit last : ℕ) → from ≤ length words
+    → steps + priorities_before limit ≤ start + priorities_before mask + from / 64 + 2 * count_in (is_below words config mask) 0 from
     → last + from / 64 ≡ steps + length words / 64
+    → last ≤ start + length words / 64 + 2 * count_in (is_below words config mask) 0 (length words) + priorities_before mask
+cost_of_all words config from start mask steps limit last le so_far walk =
+    omega (arith, used_so_far (is_below words config mask) from (length words) le, so_far, walk)
+
+-- those words are used, and there are no more priorities than 64
+pub cost_of_used : (words config : List ℕ) (start mask last : ℕ) → mask < 256
+    → last ≤ start + length words / 64 + 2 * count_in (is_below words config mask) 0 (length words) + priorities_before mask
     → last ≤ start + length words / 64 + 2 * count_in (is_used words) 0 (length words) + 64
-cost_of_all words from start mask steps limit last le small so_far walk =
-    omega (arith, used_so_far (is_used words) from (length words) le, so_far, walk, small)
+cost_of_used words config start mask last small cost =
+    let used = count_in-le (is_below words config mask) (is_used words) 0 (length words)
+    (λ k w is. (and_parts (is_used words k) (nat_lt (least_priority config (8192 + 64 * k) 64) mask) is).0) in
+    omega (arith, used, small, cost)
 
 pub best_cost : (words : List ℕ) (lpi_bits old new : ℕ) → 64 * length words ≡ lpi_count lpi_bits → ((k : ℕ) → get_or words k 0 < 2 ^ 64)
     → new ≤ old + length words / 64 + 2 * count_in (is_used words) 0 (length words) + 64

@@ -4,7 +4,7 @@ use Rattle.its_types.specs.Bits.{bit_of}
 use Rattle.its_types.specs.Lpis.{priority_of}
 use Rattle.its_types.specs.Ranges.{lpi_count}
 use Rattle.lpi_config.specs.Configurations.{Configuration}
-use Rattle.lpi_pending.specs.Priorities.{NoneBelow}
+use Rattle.lpi_pending.specs.Priorities.{NoneBelow, is_below}
 use Rattle.lpi_pending.specs.Searches.{NoneIn}
 use Rattle.lpi_pending.specs.Summaries.{IsSummary, is_used, is_ready}
 
@@ -26,12 +26,12 @@ pub record IsNextUsed (words : List ℕ) (first group used : ℕ) : Type 0 where
   pub bits : (k : ℕ) → k < 64 → bit_of used k ≡ is_used words (64 * group + k)
   pub before : NoneIn (is_used words) (64 * first) (64 * group)
 
--- a used word, and no ready bit of those before it from one on comes before a limit
+-- a used word that has an enabled LPI before a limit, and no ready bit of those before it from one on comes before that
 pub record IsNextWord (words config : List ℕ) (limit first at : ℕ) : Type 0 where
   pub from : first ≤ at
   pub below : at < length words
   pub small : at < 65536
-  pub used : is_used words at ≡ true
+  pub met : is_below words config limit at ≡ true
   pub before : NoneBelow words config limit (64 * first) (64 * at)
 
 -- a ready bit of a word, whose priority comes before a limit, and none is before it from one on

@@ -1,6 +1,6 @@
 //! The best of all LPIs by priority.
 ghost use Rattle.std.specs.Prelude.{◌≡◌, ◌+◌, ◌*◌, ◌/◌, ◌≤◌, ◌<◌, ℕ, length};
-ghost use Rattle.lpi_pending.specs.Priorities.{IsBest, priorities_before};
+ghost use Rattle.lpi_pending.specs.Priorities.{IsBest, is_below, priorities_before};
 ghost use Rattle.lpi_pending.specs.Searches.{count_in};
 ghost use Rattle.lpi_pending.specs.Summaries.{is_used};
 
@@ -19,12 +19,16 @@ pub struct Best {
 
 // Of the bits that are 1 and whose LPIs are enabled, the first by priority below a mask. A group of
 // words is a step, and again for each word that it leads to; a word is one for each LPI that comes
-// before those so far, of which there are no more than priorities, and one more.
+// before those so far, of which there are no more than priorities, and one more. It is led to no
+// word but those that have an enabled LPI below the mask.
 pub fn first_by_priority<L: Ledger>(looks: &Looks<L>, mask: u8, steps: &mut Steps<L>) -> Best
     ensures best { IsBest looks.now.words looks.now.config mask (64 * length looks.now.words)
         result }
     ensures cost { steps.new ≤ steps.old + length looks.now.words / 64
         + 2 * count_in (is_used looks.now.words) 0 (length looks.now.words) + 64 }
+    ensures stops { steps.new ≤ steps.old + length looks.now.words / 64
+        + 2 * count_in (is_below looks.now.words looks.now.config mask) 0
+            (length looks.now.words) + priorities_before mask }
 {
     let mut best = Best {
         at: None,

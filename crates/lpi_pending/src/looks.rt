@@ -115,9 +115,9 @@ impl<'a, L: Ledger> Looks<'a, L> {
         }
     }
 
-    /// The first used word from this one on that has an enabled LPI before a limit, or one that is
-    /// as good: between them no LPI that is pending and enabled comes before the limit. A step is a
-    /// group, from that of this word up to that of the answer.
+    /// The next used word from this one on that has an enabled LPI before a limit. Between them no
+    /// LPI that is pending and enabled comes before it. A step is a group, from that of this word
+    /// up to that of the answer.
     #[inline]
     pub fn next_word(&self, from: usize, limit: u8, steps: &mut Steps<L>) -> Option<usize>
         requires { from ≤ length self.now.words }
