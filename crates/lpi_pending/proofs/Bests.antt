@@ -14,12 +14,13 @@ use Rattle.lpi_config.specs.Bounds.{rank, least_priority}
 use Rattle.lpi_config.proofs.LeastIn.{least_below}
 use Rattle.lpi_pending.specs.Searches.{NoneIn, IsFirstIn, count_in}
 use Rattle.lpi_pending.specs.Summaries.{is_nonzero, is_used, is_ready, IsSummary}
-use Rattle.lpi_pending.specs.Priorities.{IsBest, IsFound, NoneBelow, IsNextGroup, is_left, is_left_of_group, priorities_before}
+use Rattle.lpi_pending.specs.Looks.{IsNextWord, IsNextLpi}
+use Rattle.lpi_pending.specs.Priorities.{IsBest, IsFound, NoneBelow, IsNextGroup, is_left, is_left_of_group, is_below, priorities_before}
 use Rattle.lpi_pending.specs.PendingSets.{lpi_bit, lpis_of, busy_words, summary_words}
 use Rattle.lpi_pending.specs.declared.best.Best.{Best}
 use Rattle.lpi_pending.proofs.Firsts.{used_words}
-use Rattle.lpi_pending.proofs.Counts.{count_in-add, count_in-some}
-use Rattle.lpi_pending.proofs.Searching.{ready_bit, none_in_unused, unused_groups, used_so_far, used_with_group}
+use Rattle.lpi_pending.proofs.Counts.{count_in-le, count_in-add, count_in-some}
+use Rattle.lpi_pending.proofs.Searching.{none_in_unused, unused_words, none_in_unused_words, used_so_far}
 use Rattle.lpi_pending.proofs.Sets.{IsWithin, those, within-first, within-next, within-later}
 
 -- ---- bit by bit
@@ -90,13 +91,9 @@ priorities_less config x limit lt =
 
 -- ---- a word
 
--- bit by bit the word that is left of a word and of its enabled LPIs
+-- bit by bit which LPIs of a word are ready
 abbrev pub ReadyWord : List ℕ → List ℕ → ℕ → ℕ → Type 0
-ReadyWord words config j ready = (i : ℕ) → i < 64 → is_ready words config (64 * j + i) ≡ bit_of ready i
-
-pub ready_word : (words config : List ℕ) (j enabled : ℕ) → ((i : ℕ) → i < 64 → bit_of enabled i ≡ is_enabled config (8192 + 64 * j + i))
-    → ReadyWord words config j (bit_and (get_or words j 0) enabled)
-ready_word words config j enabled bits i lt = ready_bit words config j enabled i lt (bits i lt)
+ReadyWord words config j ready = (i : ℕ) → i < 64 → bit_of ready i ≡ is_ready words config (64 * j + i)
 
 second_false : (a b : Bool) → a ≡ true → (a && b) ≡ false → b ≡ false
 second_false true b is both = both
@@ -108,7 +105,7 @@ none_left words config limit j ready from to le bits none y low high r =
     let split : 64 * j + (y - 64 * j) ≡ y = omega arith in
     let place : 8192 + 64 * j + (y - 64 * j) ≡ 8192 + y = omega arith in
     let within : y - 64 * j < 64 = omega arith in
-    let is : bit_of ready (y - 64 * j) ≡ true = sym (bits (y - 64 * j) within) ∙ ap (is_ready words config) split ∙ r in
+    let is : bit_of ready (y - 64 * j) ≡ true = bits (y - 64 * j) within ∙ ap (is_ready words config) split ∙ r in
     let not_below : nat_lt (priority_of config (8192 + 64 * j + (y - 64 * j))) limit ≡ false =
     second_false (bit_of ready (y - 64 * j)) (nat_lt (priority_of config (8192 + 64 * j + (y - 64 * j))) limit) is
     (none (y - 64 * j) (omega arith) (omega arith)) in
@@ -124,25 +121,55 @@ left_lt config limit j ready bit met =
     ∙ (and_parts (bit_of ready bit) (nat_lt (priority_of config (8192 + 64 * j + bit)) limit) met).1)
 
 -- the lowest bit that is left
-pub best_next : (words config : List ℕ) (mask j ready from bit : ℕ) (best : Best) → ReadyWord words config j ready
-    → IsFirstIn (is_left config best.limit j ready) from 64 bit → IsBest words config mask (64 * j + from) best
-    → IsBest words config mask (64 * j + (bit + 1)) (record { at = Some (64 * j + bit); limit = priority_of config (8192 + (64 * j + bit)) })
-best_next words config mask j ready from bit best bits first is =
+pub next_lpi_is : (words config : List ℕ) (limit j ready from bit priority : ℕ) → ReadyWord words config j ready
+    → IsFirstIn (is_left config limit j ready) from 64 bit → priority ≡ priority_of config (8192 + (64 * j + bit))
+    → IsNextLpi words config limit j from bit priority
+next_lpi_is words config limit j ready from bit priority bits first same =
     let lt = first.below in
-    let place : 64 * j + bit + 1 ≡ 64 * j + (bit + 1) = omega arith in
-    let met = and_parts (bit_of ready bit) (nat_lt (priority_of config (8192 + 64 * j + bit)) best.limit) first.met in
-    subst (λ (n : ℕ). IsBest words config mask n (record { at = Some (64 * j + bit); limit = priority_of config (8192 + (64 * j + bit)) })) place
-    (best_with words config mask (64 * j + bit) best (bits bit lt ∙ met.0) (left_lt config best.limit j ready bit first.met)
-    (best_past words config mask (64 * j + from) (64 * j + bit) best (omega (arith, first.from))
-    (none_left words config best.limit j ready from bit (omega (arith, lt)) bits first.before) is))
+    let less = left_lt config limit j ready bit first.met in
+    let met = and_parts (bit_of ready bit) (nat_lt (priority_of config (8192 + 64 * j + bit)) limit) first.met in
+    record {
+      from = first.from;
+      below = lt;
+      ready = sym (bits bit lt) ∙ met.0;
+      same = same;
+      less = omega (arith, less, same);
+      before = none_left words config limit j ready from bit (omega (arith, lt)) bits first.before;
+    }
 
-pub best_end : (words config : List ℕ) (mask j ready from : ℕ) (best : Best) → from ≤ 64 → ReadyWord words config j ready
-    → NoneIn (is_left config best.limit j ready) from 64 → IsBest words config mask (64 * j + from) best → IsBest words config mask (64 * (j + 1)) best
-best_end words config mask j ready from best le bits none is =
+pub no_next_lpi : (words config : List ℕ) (limit j ready from : ℕ) → ReadyWord words config j ready → NoneIn (is_left config limit j ready) from 64
+    → NoneBelow words config limit (64 * j + from) (64 * j + 64)
+no_next_lpi words config limit j ready from bits none = none_left words config limit j ready from 64 (omega arith) bits none
+
+-- with an LPI that comes before those so far
+pub best_next : (words config : List ℕ) (mask j from bit priority : ℕ) (best : Best) → IsNextLpi words config best.limit j from bit priority
+    → IsBest words config mask (64 * j + from) best
+    → IsBest words config mask (64 * j + (bit + 1)) (record { at = Some (64 * j + bit); limit = priority })
+best_next words config mask j from bit priority best next is =
+    let place : 64 * j + bit + 1 ≡ 64 * j + (bit + 1) = omega arith in
+    let same = next.same in
+    let less = next.less in
+    let lt : priority_of config (8192 + (64 * j + bit)) < best.limit = omega (arith, same, less) in
+    subst (λ (n : ℕ). IsBest words config mask n (record { at = Some (64 * j + bit); limit = priority })) place
+    (subst (λ (p : ℕ). IsBest words config mask (64 * j + bit + 1) (record { at = Some (64 * j + bit); limit = p })) (sym same)
+    (best_with words config mask (64 * j + bit) best next.ready lt
+    (best_past words config mask (64 * j + from) (64 * j + bit) best (let le = next.from in omega (arith, le)) next.before is)))
+
+pub best_end : (words config : List ℕ) (mask j from : ℕ) (best : Best) → from ≤ 64 → NoneBelow words config best.limit (64 * j + from) (64 * j + 64)
+    → IsBest words config mask (64 * j + from) best → IsBest words config mask (64 * (j + 1)) best
+best_end words config mask j from best le none is =
     let place : 64 * j + 64 ≡ 64 * (j + 1) = omega arith in
     subst (λ (n : ℕ). IsBest words config mask n best) place
-    (best_past words config mask (64 * j + from) (64 * j + 64) best (omega (arith, le))
-    (none_left words config best.limit j ready from 64 (omega arith) bits none) is)
+    (best_past words config mask (64 * j + from) (64 * j + 64) best (omega (arith, le)) none is)
+
+-- one priority less is left
+pub priorities_left : (words config : List ℕ) (limit j from bit priority : ℕ) → IsNextLpi words config limit j from bit priority
+    → priorities_before priority + 1 ≤ priorities_before limit
+priorities_left words config limit j from bit priority next =
+    let same = next.same in
+    let less = next.less in
+    let fewer = priorities_less config (8192 + (64 * j + bit)) limit (omega (arith, same, less)) in
+    omega (arith, fewer, same)
 
 count_more : (p : ℕ → Bool) (n m : ℕ) → n ≤ m → count_in p 0 m ≡ count_in p 0 n + count_in p n (m - n)
 count_more p n m le =
@@ -185,34 +212,42 @@ none_in_lefts words config limit group used from to le bits none y low high =
     none_in_left words config limit group used (y / 64 - 64 * group) (omega arith) bits
     (none (y / 64 - 64 * group) (omega arith) (omega arith)) y (omega arith) (omega arith)
 
-pub group_next : (words config : List ℕ) (mask group used from bit : ℕ) (best : Best) → UsedWords words group used
-    → IsFirstIn (is_left_of_group config best.limit group used) from 64 bit → IsBest words config mask (64 * (64 * group + from)) best
-    → IsBest words config mask (64 * (64 * group + bit)) best
-group_next words config mask group used from bit best bits first is =
-    best_past words config mask (64 * (64 * group + from)) (64 * (64 * group + bit)) best (omega (arith, first.from))
-    (none_in_lefts words config best.limit group used from bit (omega (arith, first.below)) bits first.before) is
+-- in its group, a word that is left
+pub next_word_is : (words config : List ℕ) (limit from at bit used : ℕ) → UsedWords words (at / 64) used
+    → IsFirstIn (is_left_of_group config limit (at / 64) used) (at % 64) 64 bit → from ≤ at → 64 * (at / 64) + 64 ≤ length words → length words ≤ 65536
+    → NoneBelow words config limit (64 * from) (64 * at) → IsNextWord words config limit from (64 * (at / 64) + bit)
+next_word_is words config limit from at bit used bits first le within small before =
+    let low = first.from in
+    let lt = first.below in
+    record {
+      from = omega (arith, le, low);
+      below = omega (arith, within, lt);
+      small = omega (arith, within, small, lt);
+      met = ap (λ b. b && nat_lt (least_priority config (8192 + 64 * (64 * (at / 64) + bit)) 64) limit) (sym (bits bit lt)) ∙ first.met;
+      before = none_below_and words config limit (64 * from) (64 * at) (64 * (64 * (at / 64) + bit)) before
+          (λ y from' below. none_in_lefts words config limit (at / 64) used (at % 64) bit (omega (arith, lt)) bits first.before y (omega (arith, from')) below);
+    }
 
-pub group_end : (words config : List ℕ) (mask group used from : ℕ) (best : Best) → from ≤ 64 → UsedWords words group used
-    → NoneIn (is_left_of_group config best.limit group used) from 64 → IsBest words config mask (64 * (64 * group + from)) best
-    → IsBest words config mask (4096 * (group + 1)) best
-group_end words config mask group used from best le bits none is =
-    let place : 64 * (64 * group + 64) ≡ 4096 * (group + 1) = omega arith in
-    subst (λ (n : ℕ). IsBest words config mask n best) place
-    (best_past words config mask (64 * (64 * group + from)) (64 * (64 * group + 64)) best (omega (arith, le))
-    (none_in_lefts words config best.limit group used from 64 (omega arith) bits none) is)
+-- none is left in its group
+pub none_in_rest : (words config : List ℕ) (limit from at used : ℕ) → UsedWords words (at / 64) used
+    → NoneIn (is_left_of_group config limit (at / 64) used) (at % 64) 64 → NoneBelow words config limit (64 * from) (64 * at)
+    → NoneBelow words config limit (64 * from) (4096 * (at / 64 + 1))
+none_in_rest words config limit from at used bits none before =
+    none_below_and words config limit (64 * from) (64 * at) (4096 * (at / 64 + 1)) before
+    (λ y low high. none_in_lefts words config limit (at / 64) used (at % 64) 64 (omega arith) bits none y (omega (arith, low)) (omega (arith, high)))
+
+-- nor in those up to another one
+pub none_to_group : (words config : List ℕ) (limit from group next : ℕ) → NoneBelow words config limit (64 * from) (4096 * group)
+    → IsNextGroup words config limit group next → NoneBelow words config limit (64 * from) (64 * (64 * next))
+none_to_group words config limit from group next before is y low high =
+    none_below_and words config limit (64 * from) (4096 * group) (4096 * next) before is.before y low (omega (arith, high))
 
 -- one used word more
-pub one_used : (config : List ℕ) (limit group used from bit : ℕ) → IsFirstIn (is_left_of_group config limit group used) from 64 bit
-    → count_in (bit_of used) 0 from + 1 ≤ count_in (bit_of used) 0 (bit + 1)
-one_used config limit group used from bit first =
-    let le = first.from in
-    let more = count_more (bit_of used) from (bit + 1) (omega (arith, le)) in
-    let one = count_in-some (bit_of used) from (bit + 1 - from) bit (record { from = le; below = omega (arith, le) })
-    (and_parts (bit_of used bit) (nat_lt (least_priority config (8192 + 64 * (64 * group + bit)) 64) limit) first.met).0 in
+one_more : (p : ℕ → Bool) (from at : ℕ) → from ≤ at → p at ≡ true → count_in p 0 from + 1 ≤ count_in p 0 (at + 1)
+one_more p from at le met =
+    let more = count_more p from (at + 1) (omega (arith, le)) in
+    let one = count_in-some p from (at + 1 - from) at (record { from = le; below = omega (arith, le) }) met in
     omega (arith, more, one)
-
-pub used_within : (used from : ℕ) → from ≤ 64 → count_in (bit_of used) 0 from ≤ count_in (bit_of used) 0 64
-used_within used from le = let more = count_more (bit_of used) from 64 le in omega (arith, more)
 
 -- ---- all groups
 
@@ -361,7 +396,16 @@ pub none_in_unused_groups : (summary words config : List ℕ) (limit from a n : 
     → NoneBelow words config limit (4096 * from) (4096 * (a + n))
 none_in_unused_groups summary words config limit from a n s zeros before =
     none_below_and words config limit (4096 * from) (4096 * a) (4096 * (a + n)) before
-    (none_below words config limit (4096 * a) (4096 * (a + n)) (unused_groups summary words config a n s zeros))
+    (λ y low high. none_below words config limit (64 * (64 * a)) (64 * (64 * (a + n)))
+    (none_in_unused_words words config (64 * a) (64 * (a + n)) (unused_words summary words a n s zeros)) y (omega (arith, low)) (omega (arith, high)))
+
+-- and no used word after them
+pub none_after : (words config : List ℕ) (limit from a : ℕ) → NoneIn (is_used words) (64 * a) (length words)
+    → NoneBelow words config limit (4096 * from) (4096 * a) → NoneBelow words config limit (4096 * from) (64 * length words)
+none_after words config limit from a unused before =
+    none_below_and words config limit (4096 * from) (4096 * a) (64 * length words) before
+    (λ y low high. none_below words config limit (64 * (64 * a)) (64 * length words)
+    (none_in_unused_words words config (64 * a) (length words) unused) y (omega (arith, low)) high)
 
 -- and then groups that have no enabled LPI before the limit
 pub none_up_to : (words config : List ℕ) (limit from used to : ℕ) → NoneBelow words config limit (4096 * from) (4096 * used)
@@ -379,27 +423,46 @@ none_to_end summary words config limit from last s is none =
     let place : 4096 * last ≡ 64 * length words = omega (arith, s.size, is) in
     subst (λ (n : ℕ). NoneBelow words config limit (4096 * from) n) place none
 
--- one group more
-pub best_to_group : (words config : List ℕ) (mask from group : ℕ) (best : Best) → IsNextGroup words config best.limit from group
-    → IsBest words config mask (4096 * from) best → IsBest words config mask (4096 * group) best
-best_to_group words config mask from group best next is =
-    best_past words config mask (4096 * from) (4096 * group) best (omega (arith, next.from)) next.before is
+-- one word more
+pub best_to_word : (words config : List ℕ) (mask from at : ℕ) (best : Best) → IsNextWord words config best.limit from at
+    → IsBest words config mask (64 * from) best → IsBest words config mask (64 * at) best
+best_to_word words config mask from at best next is =
+    best_past words config mask (64 * from) (64 * at) best (let le = next.from in omega (arith, le)) next.before is
 
-pub cost_with_group : (summary words : List ℕ) (from group used start mask steps limit after last limit' : ℕ) → IsSummary summary words → from ≤ group
-    → used ≡ get_or summary group 0
-    → steps + priorities_before limit ≤ start + priorities_before mask + from + 2 * count_in (is_used words) 0 (64 * from)
-    → after + from ≤ steps + group + 1 → last + priorities_before limit' ≤ after + priorities_before limit + 2 * count_in (bit_of used) 0 64
-    → last + priorities_before limit' ≤ start + priorities_before mask + (group + 1) + 2 * count_in (is_used words) 0 (64 * (group + 1))
-cost_with_group summary words from group used start mask steps limit after last limit' s le is so_far walk turn =
-    let here : count_in (bit_of used) 0 64 ≡ count_in (bit_of (get_or summary group 0)) 0 64 = ap (λ w. count_in (bit_of w) 0 64) is in
-    omega (arith, used_with_group summary words from group s le, here, so_far, walk, turn, le)
+-- with an LPI before a higher limit too
+below_mask : (words config : List ℕ) (limit mask at : ℕ) → limit ≤ mask → is_below words config limit at ≡ true → is_below words config mask at ≡ true
+below_mask words config limit mask at le met =
+    let both = and_parts (is_used words at) (nat_lt (least_priority config (8192 + 64 * at) 64) limit) met in
+    let lt = ltb-true (least_priority config (8192 + 64 * at) 64) limit both.1 in
+    rw (both.0, lt-ltb (least_priority config (8192 + 64 * at) 64) mask (omega (arith, lt, le))) refl
 
-pub cost_of_all : (summary words : List ℕ) (from start mask steps limit last : ℕ) → IsSummary summary words → from ≤ length summary → mask < 256
-    → steps + priorities_before limit ≤ start + priorities_before mask + from + 2 * count_in (is_used words) 0 (64 * from)
-    → last + from ≤ steps + length words / 64
+pub cost_with_word : (words config : List ℕ) (from at start mask steps after last limit' : ℕ) (best : Best)
+    → IsNextWord words config best.limit from at → IsBest words config mask (64 * from) best
+    → steps + priorities_before best.limit ≤ start + priorities_before mask + from / 64 + 2 * count_in (is_below words config mask) 0 from
+    → after + from / 64 ≡ steps + at / 64 + 1 → last + priorities_before limit' ≤ after + priorities_before best.limit + 1
+    → last + priorities_before limit' ≤ start + priorities_before mask + (at + 1) / 64 + 2 * count_in (is_below words config mask) 0 (at + 1)
+cost_with_word words config from at start mask steps after last limit' best next is so_far walk turn =
+    let le = next.from in
+    let below = limit_below words config mask (64 * from) best.at best.limit is.found in
+    let more = one_more (is_below words config mask) from at next.from (below_mask words config best.limit mask at below next.met) in
+    let groups : at / 64 ≤ (at + 1) / 64 = omega arith in
+    omega (arith, more, groups, so_far, walk, turn, le)
+
+pub cost_of_all : (words config : List ℕ) (from start mask steps limit last : ℕ) → from ≤ length words
+    → steps + priorities_before limit ≤ start + priorities_before mask + from / 64 + 2 * count_in (is_below words config mask) 0 from
+    → last + from / 64 ≡ steps + length words / 64
+    → last ≤ start + length words / 64 + 2 * count_in (is_below words config mask) 0 (length words) + priorities_before mask
+cost_of_all words config from start mask steps limit last le so_far walk =
+    omega (arith, used_so_far (is_below words config mask) from (length words) le, so_far, walk)
+
+-- those words are used, and there are no more priorities than 64
+pub cost_of_used : (words config : List ℕ) (start mask last : ℕ) → mask < 256
+    → last ≤ start + length words / 64 + 2 * count_in (is_below words config mask) 0 (length words) + priorities_before mask
     → last ≤ start + length words / 64 + 2 * count_in (is_used words) 0 (length words) + 64
-cost_of_all summary words from start mask steps limit last s le small so_far walk =
-    omega (arith, used_so_far (is_used words) (64 * from) (length words) (omega (arith, s.size, le)), so_far, walk, s.size, small)
+cost_of_used words config start mask last small cost =
+    let used = count_in-le (is_below words config mask) (is_used words) 0 (length words)
+    (λ k w is. (and_parts (is_used words k) (nat_lt (least_priority config (8192 + 64 * k) 64) mask) is).0) in
+    omega (arith, used, small, cost)
 
 pub best_cost : (words : List ℕ) (lpi_bits old new : ℕ) → 64 * length words ≡ lpi_count lpi_bits → ((k : ℕ) → get_or words k 0 < 2 ^ 64)
     → new ≤ old + length words / 64 + 2 * count_in (is_used words) 0 (length words) + 64

@@ -11,6 +11,7 @@ use Rattle.its_types.specs.Lpis.{is_enabled}
 use Rattle.its_types.specs.Bitmap.{word_bit}
 use Rattle.lpi_pending.specs.Searches.{NoneIn, IsFirstIn, count_in}
 use Rattle.lpi_pending.specs.Summaries.{is_nonzero, is_used, is_ready, IsSummary}
+use Rattle.lpi_pending.specs.Looks.{IsNextUsed}
 use Rattle.lpi_config.proofs.LowestBits.{bit_of-zero, IsLowest, lowest}
 use Rattle.lpi_pending.proofs.Bits.{bit_of-and, is_nonzero-false}
 use Rattle.lpi_pending.proofs.Masks.{position-None}
@@ -43,29 +44,27 @@ ready_bit words config j enabled i lt is =
     rw (word, bit, place, bit_of-and (get_or words j 0) enabled i, is) refl
 
 pub first_in_word :
-    (words config : List ℕ) (j enabled : ℕ) → ((i : ℕ) → i < 64 → bit_of enabled i ≡ is_enabled config (8192 + 64 * j + i))
-    → bit_and (get_or words j 0) enabled ≢ 0 → bit_and (get_or words j 0) enabled < 2 ^ 64
-    → IsFirstIn (is_ready words config) (64 * j) (64 * j + 64) (64 * j + trailing_zeros w64 (bit_and (get_or words j 0) enabled))
-first_in_word words config j enabled bits some small =
-    let low = lowest (bit_and (get_or words j 0) enabled) some small in
+    (words config : List ℕ) (j ready : ℕ) → ((i : ℕ) → i < 64 → bit_of ready i ≡ is_ready words config (64 * j + i)) → ready ≢ 0 → ready < 2 ^ 64
+    → IsFirstIn (is_ready words config) (64 * j) (64 * j + 64) (64 * j + trailing_zeros w64 ready)
+first_in_word words config j ready bits some small =
+    let low = lowest ready some small in
     record {
       from = omega arith;
       below = omega (arith, low.below);
-      met = ready_bit words config j enabled _ low.below (bits _ low.below) ∙ low.met;
+      met = sym (bits _ low.below) ∙ low.met;
       before = λ y from below.
           let split : 64 * j + (y - 64 * j) ≡ y = omega arith in
           let within : y - 64 * j < 64 = omega (arith, low.below) in
-          ap (is_ready words config) (sym split) ∙ ready_bit words config j enabled (y - 64 * j) within (bits _ within) ∙ low.before (y - 64 * j) (omega arith);
+          ap (is_ready words config) (sym split) ∙ sym (bits (y - 64 * j) within) ∙ low.before (y - 64 * j) (omega arith);
     }
 
 pub none_in_word :
-    (words config : List ℕ) (j enabled : ℕ) → ((i : ℕ) → i < 64 → bit_of enabled i ≡ is_enabled config (8192 + 64 * j + i))
-    → bit_and (get_or words j 0) enabled ≡ 0 → NoneIn (is_ready words config) (64 * j) (64 * j + 64)
-none_in_word words config j enabled bits none y from below =
+    (words config : List ℕ) (j ready : ℕ) → ((i : ℕ) → i < 64 → bit_of ready i ≡ is_ready words config (64 * j + i)) → ready ≡ 0
+    → NoneIn (is_ready words config) (64 * j) (64 * j + 64)
+none_in_word words config j ready bits none y from below =
     let split : 64 * j + (y - 64 * j) ≡ y = omega arith in
     let within : y - 64 * j < 64 = omega arith in
-    ap (is_ready words config) (sym split) ∙ ready_bit words config j enabled (y - 64 * j) within (bits _ within)
-    ∙ ap (λ n. bit_of n (y - 64 * j)) none ∙ bit_of-zero (y - 64 * j)
+    ap (is_ready words config) (sym split) ∙ sym (bits (y - 64 * j) within) ∙ ap (λ n. bit_of n (y - 64 * j)) none ∙ bit_of-zero (y - 64 * j)
 
 pub none_in_unused : (words config : List ℕ) (j : ℕ) → is_used words j ≡ false → NoneIn (is_ready words config) (64 * j) (64 * j + 64)
 none_in_unused words config j unused y from below =
@@ -141,18 +140,23 @@ summary_word summary words group s k lt =
     let bit : (64 * group + k) % 64 ≡ k = omega arith in
     sym (ap (λ j. bit_of (get_or summary j 0) ((64 * group + k) % 64)) word ∙ ap (bit_of (get_or summary group 0)) bit) ∙ s.bits (64 * group + k)
 
--- groups whose words of the summary are zero
-pub unused_groups :
-    (summary words config : List ℕ) (a n : ℕ) → IsSummary summary words → ((k : ℕ) → k < n → is_nonzero (get_or (drop a summary) k 0) ≡ false)
-    → NoneIn (is_ready words config) (4096 * a) (4096 * (a + n))
-unused_groups summary words config a n s zeros y from below =
-    let group : a + (y / 64 / 64 - a) ≡ y / 64 / 64 = omega arith in
-    let none : get_or summary (y / 64 / 64) 0 ≡ 0 =
-    ap (λ k. get_or summary k 0) (sym group) ∙ sym (get_or-drop a summary (y / 64 / 64 - a) 0)
-    ∙ is_nonzero-false (get_or (drop a summary) (y / 64 / 64 - a) 0) (zeros (y / 64 / 64 - a) (omega arith))
+-- words of the summary that are zero
+pub unused_words :
+    (summary words : List ℕ) (a n : ℕ) → IsSummary summary words → ((k : ℕ) → k < n → is_nonzero (get_or (drop a summary) k 0) ≡ false)
+    → NoneIn (is_used words) (64 * a) (64 * (a + n))
+unused_words summary words a n s zeros y from below =
+    let group : a + (y / 64 - a) ≡ y / 64 = omega arith in
+    let none : get_or summary (y / 64) 0 ≡ 0 =
+    ap (λ k. get_or summary k 0) (sym group) ∙ sym (get_or-drop a summary (y / 64 - a) 0)
+    ∙ is_nonzero-false (get_or (drop a summary) (y / 64 - a) 0) (zeros (y / 64 - a) (omega arith))
     in
-    let unused : is_used words (y / 64) ≡ false = sym (s.bits (y / 64)) ∙ ap (λ word. bit_of word (y / 64 % 64)) none ∙ bit_of-zero (y / 64 % 64) in
-    none_in_unused words config (y / 64) unused y (omega arith) (omega arith)
+    sym (s.bits y) ∙ ap (λ word. bit_of word (y % 64)) none ∙ bit_of-zero (y % 64)
+
+-- a stretch of words that aren't used
+pub none_in_unused_words :
+    (words config : List ℕ) (low high : ℕ) → NoneIn (is_used words) low high → NoneIn (is_ready words config) (64 * low) (64 * high)
+none_in_unused_words words config low high unused y from below =
+    none_in_unused words config (y / 64) (unused (y / 64) (omega arith) (omega arith)) y (omega arith) (omega arith)
 
 -- what is before a group, and in it
 pub found_in_all :
@@ -177,12 +181,11 @@ used_so_far p a b le =
     omega (arith, add)
 
 pub used_with_group :
-    (summary words : List ℕ) (a group : ℕ) → IsSummary summary words → a ≤ group
-    → count_in (is_used words) 0 (64 * a) + count_in (bit_of (get_or summary group 0)) 0 64 ≤ count_in (is_used words) 0 (64 * (group + 1))
-used_with_group summary words a group s le =
-    let here : count_in (bit_of (get_or summary group 0)) 0 64 ≡ count_in (is_used words) (64 * group + 0) 64 =
-    count_in-same (bit_of (get_or summary group 0)) (λ k. is_used words (64 * group + k)) 0 64
-    (λ k w. summary_word summary words group s k (omega (arith, w.below)))
+    (words : List ℕ) (a group used : ℕ) → ((k : ℕ) → k < 64 → bit_of used k ≡ is_used words (64 * group + k)) → a ≤ group
+    → count_in (is_used words) 0 (64 * a) + count_in (bit_of used) 0 64 ≤ count_in (is_used words) 0 (64 * (group + 1))
+used_with_group words a group used bits le =
+    let here : count_in (bit_of used) 0 64 ≡ count_in (is_used words) (64 * group + 0) 64 =
+    count_in-same (bit_of used) (λ k. is_used words (64 * group + k)) 0 64 (λ k w. bits k (omega (arith, w.below)))
     ∙ count_in-shift (is_used words) (64 * group) 0 64
     in
     let place : 64 * group + 0 ≡ 0 + 64 * group = omega arith in
@@ -196,65 +199,91 @@ used_with_group summary words a group s le =
 -- ---- one turn of the search, and its end
 
 pub next_group :
-    (summary slice : List ℕ) (a skipped : ℕ) → slice ≡ summary → Some skipped ≡ position is_nonzero (take (length slice - a) (drop a slice))
+    (summary : List ℕ) (a skipped : ℕ) → Some skipped ≡ position is_nonzero (take (length summary - a) (drop a summary))
     → (a + skipped < length summary) × ((k : ℕ) → k < skipped → is_nonzero (get_or (drop a summary) k 0) ≡ false)
-next_group summary slice a skipped same e =
-    let rest : take (length slice - a) (drop a slice) ≡ drop a summary = take_rest slice a ∙ ap (drop a) same in
+next_group summary a skipped e =
+    let rest : take (length summary - a) (drop a summary) ≡ drop a summary = take_rest summary a in
     let parts = position-Some is_nonzero (drop a summary) skipped 0 (sym (e ∙ ap (position is_nonzero) rest)) in
     (omega (arith, parts.0, length-drop a summary), parts.2)
 
 pub no_group :
-    (summary slice : List ℕ) (a : ℕ) → slice ≡ summary → None ≡ position is_nonzero (take (length slice - a) (drop a slice))
+    (summary : List ℕ) (a : ℕ) → None ≡ position is_nonzero (take (length summary - a) (drop a summary))
     → (k : ℕ) → k < length summary - a → is_nonzero (get_or (drop a summary) k 0) ≡ false
-no_group summary slice a same e k lt =
-    let rest : take (length slice - a) (drop a slice) ≡ drop a summary = take_rest slice a ∙ ap (drop a) same in
+no_group summary a e k lt =
+    let rest : take (length summary - a) (drop a summary) ≡ drop a summary = take_rest summary a in
     position-None is_nonzero (drop a summary) (e ∙ ap (position is_nonzero) rest) k (omega (arith, length-drop a summary))
 
+-- no used word from a group on
+pub no_used_from :
+    (summary words : List ℕ) (a : ℕ) → IsSummary summary words → a ≤ length summary
+    → None ≡ position is_nonzero (take (length summary - a) (drop a summary)) → NoneIn (is_used words) (64 * a) (length words)
+no_used_from summary words a s le e y from below =
+    unused_words summary words a (length summary - a) s (no_group summary a e) y from (omega (arith, s.size, le))
+
+pub next_used_is :
+    (summary words : List ℕ) (a skipped used : ℕ) → IsSummary summary words
+    → Some skipped ≡ position is_nonzero (take (length summary - a) (drop a summary)) → used ≡ get_or summary (a + skipped) 0
+    → IsNextUsed words a (a + skipped) used
+next_used_is summary words a skipped used s e is =
+    let next = next_group summary a skipped e in
+    record {
+      from = omega arith;
+      below = omega (arith, next.0, s.size);
+      small = omega (arith, next.0, s.small);
+      bits = λ k lt. ap (λ w. bit_of w k) is ∙ summary_word summary words (a + skipped) s k lt;
+      before = unused_words summary words a skipped s next.1;
+    }
+
 pub found_first :
-    (summary words group_words config : List ℕ) (a skipped x : ℕ) → IsSummary summary words → group_words ≡ words → a + skipped < length summary
-    → ((k : ℕ) → k < skipped → is_nonzero (get_or (drop a summary) k 0) ≡ false) → NoneIn (is_ready words config) 0 (4096 * a)
-    → IsFirstIn (is_ready group_words config) (4096 * (a + skipped)) (4096 * (a + skipped) + 4096) x
-    → IsFirstIn (is_ready words config) 0 (64 * length words) x
-found_first summary words group_words config a skipped x s same lt zeros before first =
-    let first' : IsFirstIn (is_ready words config) (4096 * (a + skipped)) (4096 * (a + skipped) + 4096) x =
-    subst (λ (ws : List ℕ). IsFirstIn (is_ready ws config) (4096 * (a + skipped)) (4096 * (a + skipped) + 4096) x) same first
-    in
-    found_in_all words config a (a + skipped) x (64 * length words) before (unused_groups summary words config a skipped s zeros) first' (omega (arith, s.size))
+    (words config : List ℕ) (a group used x : ℕ) → IsNextUsed words a group used → NoneIn (is_ready words config) 0 (4096 * a)
+    → IsFirstIn (is_ready words config) (4096 * group) (4096 * group + 4096) x → IsFirstIn (is_ready words config) 0 (64 * length words) x
+found_first words config a group used x next before first =
+    found_in_all words config a group x (64 * length words) before
+    (λ y from below. none_in_unused_words words config (64 * a) (64 * group) next.before y (omega arith) (omega arith)) first
+    (let within = next.below in omega (arith, within))
 
 pub none_so_far :
-    (summary words group_words config : List ℕ) (a skipped : ℕ) → IsSummary summary words → group_words ≡ words
-    → ((k : ℕ) → k < skipped → is_nonzero (get_or (drop a summary) k 0) ≡ false) → NoneIn (is_ready words config) 0 (4096 * a)
-    → NoneIn (is_ready group_words config) (4096 * (a + skipped)) (4096 * (a + skipped) + 4096)
-    → NoneIn (is_ready words config) 0 (4096 * (a + skipped + 1))
-none_so_far summary words group_words config a skipped s same zeros before none y from below =
-    let none' : NoneIn (is_ready words config) (4096 * (a + skipped)) (4096 * (a + skipped) + 4096) =
-    subst (λ (ws : List ℕ). NoneIn (is_ready ws config) (4096 * (a + skipped)) (4096 * (a + skipped) + 4096)) same none
-    in
-    none_and (is_ready words config) 0 (4096 * a) (4096 * (a + skipped) + 4096) before
-    (none_and (is_ready words config) (4096 * a) (4096 * (a + skipped)) (4096 * (a + skipped) + 4096) (unused_groups summary words config a skipped s zeros)
-    none')
+    (words config : List ℕ) (a group used : ℕ) → IsNextUsed words a group used → NoneIn (is_ready words config) 0 (4096 * a)
+    → NoneIn (is_ready words config) (4096 * group) (4096 * group + 4096) → NoneIn (is_ready words config) 0 (4096 * (group + 1))
+none_so_far words config a group used next before none y from below =
+    none_and (is_ready words config) 0 (4096 * a) (4096 * group + 4096) before
+    (none_and (is_ready words config) (4096 * a) (4096 * group) (4096 * group + 4096)
+    (λ z low high. none_in_unused_words words config (64 * a) (64 * group) next.before z (omega arith) (omega arith)) none)
     y from (omega arith)
 
 pub none_at_all :
-    (summary words config : List ℕ) (a : ℕ) → IsSummary summary words → a ≤ length summary
-    → ((k : ℕ) → k < length summary - a → is_nonzero (get_or (drop a summary) k 0) ≡ false) → NoneIn (is_ready words config) 0 (4096 * a)
+    (words config : List ℕ) (a : ℕ) → NoneIn (is_used words) (64 * a) (length words) → NoneIn (is_ready words config) 0 (4096 * a)
     → NoneIn (is_ready words config) 0 (64 * length words)
-none_at_all summary words config a s le zeros before y from below =
-    none_and (is_ready words config) 0 (4096 * a) (4096 * (a + (length summary - a))) before (unused_groups summary words config a (length summary - a) s zeros)
-    y from (omega (arith, s.size))
+none_at_all words config a unused before y from below =
+    none_and (is_ready words config) 0 (4096 * a) (64 * length words) before
+    (λ z low high. none_in_unused_words words config (64 * a) (length words) unused z (omega arith) high) y from below
 
--- what a turn costs: the words of the summary up to the next group, and the used words of that
+-- what a turn costs: the groups up to the next one that is used, and the used words of that
 pub cost_so_far :
-    (summary words : List ℕ) (a skipped used start steps last : ℕ) → IsSummary summary words → used ≡ get_or summary (a + skipped) 0
-    → steps ≤ start + a + count_in (is_used words) 0 (64 * a) → last ≤ steps + (skipped + 1) + count_in (bit_of used) 0 64
-    → last ≤ start + (a + skipped + 1) + count_in (is_used words) 0 (64 * (a + skipped + 1))
-cost_so_far summary words a skipped used start steps last s is so_far turn =
-    let here : count_in (bit_of used) 0 64 ≡ count_in (bit_of (get_or summary (a + skipped) 0)) 0 64 = ap (λ w. count_in (bit_of w) 0 64) is in
-    omega (arith, used_with_group summary words a (a + skipped) s (omega arith), here, so_far, turn)
+    (words : List ℕ) (a group used start steps after last : ℕ) → IsNextUsed words a group used
+    → steps ≤ start + a + count_in (is_used words) 0 (64 * a) → after + a ≡ steps + group + 1 → last ≤ after + count_in (bit_of used) 0 64
+    → last ≤ start + (group + 1) + count_in (is_used words) 0 (64 * (group + 1))
+cost_so_far words a group used start steps after last next so_far walk turn =
+    omega (arith, used_with_group words a group used next.bits next.from, so_far, walk, turn, next.from)
 
 -- no turn goes past the last group
 pub cost_in_all :
-    (summary words : List ℕ) (a start last : ℕ) → IsSummary summary words → a ≤ length summary
-    → last ≤ start + a + count_in (is_used words) 0 (64 * a)
+    (words : List ℕ) (a start last : ℕ) → 64 * a ≤ length words → last ≤ start + a + count_in (is_used words) 0 (64 * a)
     → last ≤ start + length words / 64 + count_in (is_used words) 0 (length words)
-cost_in_all summary words a start last s le so_far = omega (arith, used_so_far (is_used words) (64 * a) (length words) (omega (arith, s.size)), so_far, s.size)
+cost_in_all words a start last le so_far = omega (arith, used_so_far (is_used words) (64 * a) (length words) le, so_far, le)
+
+pub cost_to_end :
+    (words : List ℕ) (a start steps last : ℕ) → 64 * a ≤ length words → steps ≤ start + a + count_in (is_used words) 0 (64 * a)
+    → last + a ≡ steps + length words / 64 → last ≤ start + length words / 64 + count_in (is_used words) 0 (length words)
+cost_to_end words a start steps last le so_far walk = omega (arith, used_so_far (is_used words) (64 * a) (length words) le, so_far, le, walk)
+
+-- so it stops at the group of what is found
+pub cost_to_found :
+    (words config : List ℕ) (group start last first : ℕ) → IsFirstIn (is_ready words config) (4096 * group) (4096 * group + 4096) first
+    → last ≤ start + (group + 1) + count_in (is_used words) 0 (64 * (group + 1))
+    → last ≤ start + (first / 4096 + 1) + count_in (is_used words) 0 (64 * (first / 4096 + 1))
+cost_to_found words config group start last first is cost =
+    let low = is.from in
+    let high = is.below in
+    let same : group ≡ first / 4096 = omega (arith, low, high) in
+    subst (λ (g : ℕ). last ≤ start + (g + 1) + count_in (is_used words) 0 (64 * (g + 1))) same cost

@@ -1,6 +1,7 @@
 pub mod Searches
 pub mod Summaries
 pub mod Priorities
+pub mod Looks
 pub mod PendingSets
 pub mod Pend
 pub mod InHand

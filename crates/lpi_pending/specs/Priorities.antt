@@ -3,7 +3,7 @@ use Rattle.std.specs.Prelude.{◌≡◌, ℕ, ◌+◌, ◌*◌, ◌/◌, ◌≤�
 use Rattle.its_types.specs.Bits.{bit_of}
 use Rattle.its_types.specs.Lpis.{priority_of}
 use Rattle.lpi_config.specs.Bounds.{least_priority}
-use Rattle.lpi_pending.specs.Summaries.{is_ready}
+use Rattle.lpi_pending.specs.Summaries.{is_used, is_ready}
 use Rattle.lpi_pending.specs.declared.best.Best.{Best}
 
 -- bit x is ready and below the mask, of this priority, and each ready one before it comes after it by priority
@@ -28,6 +28,10 @@ pub record IsNextGroup (words config : List ℕ) (limit first group : ℕ) : Typ
   pub from : first ≤ group
   pub below : 64 * group + 64 ≤ length words
   pub before : NoneBelow words config limit (4096 * first) (4096 * group)
+
+-- a word that is used and has an enabled LPI before a limit
+abbrev pub is_below : List ℕ → List ℕ → ℕ → ℕ → Bool
+is_below words config limit k = is_used words k && nat_lt (least_priority config (8192 + 64 * k) 64) limit
 
 -- of the words of a group, one that is used and has an enabled LPI before a limit
 abbrev pub is_left_of_group : List ℕ → ℕ → ℕ → ℕ → ℕ → Bool

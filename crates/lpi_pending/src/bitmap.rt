@@ -1,20 +1,18 @@
 //! A bit for each LPI, in words.
-ghost use Rattle.std.specs.Prelude.{◌≡◌, ◌+◌, ◌*◌, ◌/◌, ◌<◌, ◌≤◌, ◌^◌, ℕ, true, List, ◌||◌, IfOk};
-ghost use Rattle.std.specs.Prelude.{MatchOption, length, replicate, slice_index, slice_set, bit_or};
+ghost use Rattle.std.specs.Prelude.{◌≡◌, ◌+◌, ◌*◌, ◌<◌, ◌≤◌, ◌^◌, ℕ, true, ◌||◌, IfOk};
+ghost use Rattle.std.specs.Prelude.{length, replicate, slice_index, slice_set, bit_or};
 ghost use Rattle.guest_windows.specs.Windows.{inside};
 ghost use Rattle.its_types.specs.Ranges.{lpi_count};
-ghost use Rattle.its_types.specs.Bits.{bit_of};
 ghost use Rattle.its_types.specs.Bitmap.{word_bit};
 ghost use Rattle.lpi_pending.specs.PendingSets.{table_bit};
-ghost use Rattle.lpi_pending.specs.Priorities.{IsBest, IsNextGroup, NoneBelow};
-ghost use Rattle.lpi_pending.specs.Searches.{FirstIn, count_in};
-ghost use Rattle.lpi_pending.specs.Summaries.{is_used, is_ready};
+ghost use Rattle.lpi_pending.specs.Searches.{FirstIn};
+ghost use Rattle.lpi_pending.specs.Summaries.{is_used};
 
-use crate::best::{Best, best_in_group};
+use crate::first_bit::bit_from;
 use crate::lanes::first_nonzero;
-use crate::steps::Steps;
+use crate::looks::Looks;
 use guest_windows::Memory;
-use its_types::{Addr, put_bit, with_bit};
+use its_types::{Addr, put_bit};
 use lpi_config::Config;
 use std::alloc::{AllocError, Global};
 use std::marker::Model;
@@ -141,151 +139,15 @@ impl Bitmap {
         move_words(&mut self.summary, &mut to.summary);
     }
 
-    // The first bit that is 1 and whose LPI is enabled. A step is a word looked at: each word of
-    // the summary counts once, though four of them are loaded at a time, and each word that the
-    // summary leads to.
-    pub fn first_ready<L: Ledger>(&self, config: &Config, steps: &mut Steps<L>) -> Option<usize>
+    // What a search sees of it, with the configuration of its LPIs.
+    #[inline(always)]
+    pub fn looks<'a, L: Ledger>(&'a self, config: &'a Config) -> Looks<'a, L>
         requires { 64 * length self.now ≡ lpi_count config.now.lpi_bits }
-        ensures found { FirstIn (is_ready self.now config.now.bytes) 0
-            (64 * length self.now) result }
-        ensures cost { steps.new ≤ steps.old + length self.now / 64 + count_in (is_used self.now) 0
-            (length self.now) }
+        ensures seen { result ≡ record { words = self.now; config = config.now.bytes } }
         ensures words { (k : ℕ) → slice_index self.now k < 2 ^ 64 }
     {
         let words: &[u64] = &self.words;
-        let mut at = 0;
-        while let Some(skipped) = first_nonzero(&self.summary[at..]) {
-            let group = at + skipped;
-            steps.add(skipped as u64 + 1);
-            let used = self.summary[group];
-            if let Some(first) = first_in_group(words, config, group, used, steps) {
-                return Some(first);
-            }
-            at = group + 1;
-        }
-        steps.add((self.summary.len() - at) as u64);
-        None
-    }
-
-    // Of the bits that are 1 and whose LPIs are enabled, the first by priority below a mask. A step
-    // is a word looked at, of the summary with the least priorities of its 64 words, or of the bits
-    // with the bytes of its 64 LPIs; or it is an LPI that comes before those so far, of which there
-    // are no more than priorities. A word of the summary is looked at again for each word that it
-    // leads to.
-    pub fn first_by_priority<L: Ledger>(
-        &self,
-        config: &Config,
-        mask: u8,
-        steps: &mut Steps<L>,
-    ) -> Best
-        requires { 64 * length self.now ≡ lpi_count config.now.lpi_bits }
-        ensures best { IsBest self.now config.now.bytes mask (64 * length self.now) result }
-        ensures cost { steps.new ≤ steps.old + length self.now / 64
-            + 2 * count_in (is_used self.now) 0 (length self.now) + 64 }
-        ensures words { (k : ℕ) → slice_index self.now k < 2 ^ 64 }
-    {
-        let words: &[u64] = &self.words;
-        let mut best = Best {
-            at: None,
-            limit: mask,
-        };
-        let mut from = 0;
-        while let Some(group) = self.next_group(config, from, best.limit, steps) {
-            let used = self.summary[group];
-            best = best_in_group(words, config, group, used, best, steps);
-            from = group + 1;
-        }
-        best
-    }
-
-    // The first group of words from this one on that has a bit that is 1 and an enabled LPI that
-    // comes before a limit. A step is a word of the summary looked at.
-    fn next_group<L: Ledger>(
-        &self,
-        config: &Config,
-        from: usize,
-        limit: u8,
-        steps: &mut Steps<L>,
-    ) -> Option<usize>
-        requires within { 64 * from ≤ length self.now }
-        requires size { 64 * length self.now ≡ lpi_count config.now.lpi_bits }
-        ensures found { MatchOption result
-            (NoneBelow self.now config.now.bytes limit (4096 * from) (64 * length self.now))
-            (λ group. IsNextGroup self.now config.now.bytes limit from group) }
-        ensures cost { MatchOption result
-            (steps.new + from ≤ steps.old + length self.now / 64)
-            (λ group. steps.new + from ≤ steps.old + group + 1) }
-    {
-        let mut at = from;
-        while let Some(skipped) = first_nonzero(&self.summary[at..]) {
-            let used = at + skipped;
-            steps.add(skipped as u64 + 1);
-            let Some(group) = config.next_group_below(used, limit) else {
-                return None;
-            };
-            if group == used {
-                return Some(group);
-            }
-            at = group;
-        }
-        steps.add((self.summary.len() - at) as u64);
-        None
-    }
-}
-
-// Of the 64 words that one word of the summary stands for.
-fn first_in_group<L: Ledger>(
-    words: &[u64],
-    config: &Config,
-    group: usize,
-    used: u64,
-    steps: &mut Steps<L>,
-) -> Option<usize>
-    requires within { 64 * group + 64 ≤ length words.now }
-    requires small { length words.now ≤ 65536 }
-    requires size { 64 * length words.now ≡ lpi_count config.now.lpi_bits }
-    requires used { (k : ℕ) → k < 64 → bit_of used k ≡ is_used words.now (64 * group + k) }
-    ensures found { FirstIn (is_ready words.now config.now.bytes) (4096 * group)
-        (4096 * group + 4096) result }
-    ensures cost { steps.new ≤ steps.old + count_in (bit_of used) 0 64 }
-{
-    let mut left = used;
-    while left != 0 {
-        let place = left.trailing_zeros();
-        let at = 64 * group + place as usize;
-        steps.add(1);
-        if let Some(first) = first_in_word(words[at], config, at) {
-            return Some(first);
-        }
-        left = with_bit(left, place, false);
-    }
-    None
-}
-
-fn first_in_word(word: u64, config: &Config, at: usize) -> Option<usize>
-    requires within { 64 * at < lpi_count config.now.lpi_bits }
-    requires small { at < 65536 }
-    ensures { (words : List ℕ) → slice_index words at ≡ word →
-        FirstIn (is_ready words config.now.bytes) (64 * at) (64 * at + 64) result }
-{
-    let ready = word & config.enabled_word(at);
-    if ready == 0 {
-        None
-    } else {
-        Some(64 * at + ready.trailing_zeros() as usize)
-    }
-}
-
-// The first bit of a word from this one on that is 1.
-pub fn bit_from(word: u64, from: u32) -> Option<u32>
-    requires { from < 64 }
-    ensures { FirstIn (bit_of word) from 64 result }
-{
-    let left = word >> from;
-    if left == 0 {
-        None
-    } else {
-        Some(from + left.trailing_zeros())
+        Looks::new(words, &self.summary, config)
     }
 }
 

@@ -3,8 +3,11 @@
 
 mod best;
 mod bitmap;
+mod first;
+mod first_bit;
 mod gicr;
 mod lanes;
+mod looks;
 mod pend;
 mod pending;
 mod places;

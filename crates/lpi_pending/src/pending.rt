@@ -10,7 +10,9 @@ ghost use Rattle.its_types.specs.Ranges.{is_lpi, lpi_count, pending_bytes};
 ghost use Rattle.its_types.specs.Lpis as spec;
 ghost use Rattle.lpi_pending.specs.PendingSets.{none_pending, as_intid, busy_words, summary_words};
 
+use crate::best::first_by_priority;
 use crate::bitmap::Bitmap;
+use crate::first::first_ready;
 use crate::steps::Steps;
 use guest_windows::Memory;
 use its_types::{Addr, Intid, bit_of, field, with_bit};
@@ -133,7 +135,7 @@ impl Pending {
         ensures cost { steps.new ≤ steps.old + summary_words self.now.lpi_bits + busy_words
             self.now }
     {
-        match self.bitmap.first_ready(config, steps) {
+        match first_ready(&self.bitmap.looks(config), steps) {
             Some(at) => Some(Intid(8192 + at as u32)),
             None => None,
         }
@@ -185,7 +187,7 @@ impl Pending {
         ensures cost { steps.new ≤ steps.old + summary_words self.now.lpi_bits
             + 2 * busy_words self.now + 64 }
     {
-        match self.bitmap.first_by_priority(config, mask, steps).at {
+        match first_by_priority(&self.bitmap.looks(config), mask, steps).at {
             Some(at) => Some(Intid(8192 + at as u32)),
             None => None,
         }

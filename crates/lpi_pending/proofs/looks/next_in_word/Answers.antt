@@ -1,7 +1,7 @@
 use Rattle.std.proofs.Common.{◌+◌, ◌*◌, ltb}
 use Rattle.its_types.specs.Lpis.{priority_of}
 use Rattle.lpi_pending.proofs.FirstOfBoth.{first_past}
-use Rattle.lpi_pending.proofs.best.next_in_word.Goals as goal
+use Rattle.lpi_pending.proofs.looks.next_in_word.Goals as goal
 
 pub returns : goal.returns
 returns c =
