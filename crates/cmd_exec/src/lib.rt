@@ -8,7 +8,6 @@ mod batch;
 mod carry_out;
 mod collections;
 mod effect;
-mod eight;
 mod execute;
 mod lpis;
 mod met;

@@ -1,5 +1,6 @@
 //! Configuration bytes of some LPIs, read again by all virtual processors.
-ghost use Rattle.std.specs.Prelude.{◌≡◌, ◌≤◌, true, Some, None, All, length, take};
+ghost use Rattle.std.specs.Prelude.{◌≡◌, ◌+◌, ◌-◌, ◌≤◌, true, Some, None, All, length, take};
+ghost use Rattle.guest_windows.specs.Windows.{byte_at};
 ghost use Rattle.its_types.specs.Ranges.{is_lpi};
 ghost use Rattle.its_plain.specs.Commands.{conf_all_reread_at};
 ghost use Rattle.lpi_config.specs.Conf.{conf_state};
@@ -8,7 +9,6 @@ ghost use Rattle.cmd_exec.specs.Ready.{CanEachReread};
 ghost use Rattle.cmd_exec.specs.Reloaded.{numbers, bytes_of, reloaded, with_read, CanRead};
 ghost use Rattle.cmd_exec.specs.LastRead.{IsReadOf};
 
-use crate::eight::Eight;
 use guest_windows::Memory;
 use its_types::{Addr, Intid, Vcpu};
 use lpi_config::Conf;
@@ -86,10 +86,18 @@ fn read_bytes(memory: &Memory, table: Addr, intids: &[Intid], bytes: &mut [Optio
     requires most { length intids.now ≤ 64 }
     ensures { take (length intids.now) bytes.new ≡ bytes_of memory.now table.0 intids.now }
 {
-    let mut eight = Eight::nothing();
     for at in 0..intids.len() {
-        bytes[at] = eight.byte(memory, table, intids[at]);
+        bytes[at] = table_byte(memory, table, intids[at]);
     }
+}
+
+// An LPI's byte in the table that begins at an address, if a window has it.
+fn table_byte(memory: &Memory, table: Addr, intid: Intid) -> Option<u8>
+    requires { CanRead table.0 intid }
+    ensures { result ≡ byte_at memory.now (table.0 + (intid.0 - 8192)) }
+{
+    let place = u64::from(intid.0 - 8192);
+    memory.read_u8(Addr(table.0 + place)).ok()
 }
 
 // Replaces the byte of each by one that was read, if it was.
