@@ -28,7 +28,7 @@ pub fn first_by_priority<L: Ledger>(looks: &Looks<L>, mask: u8, steps: &mut Step
         + 2 * count_in (is_used looks.now.words) 0 (length looks.now.words) + 64 }
     ensures stops { steps.new ≤ steps.old + length looks.now.words / 64
         + 2 * count_in (is_below looks.now.words looks.now.config mask) 0
-            (length looks.now.words) + priorities_before mask }
+        (length looks.now.words) + priorities_before mask }
 {
     let mut best = Best {
         at: None,
