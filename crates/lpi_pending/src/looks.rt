@@ -29,11 +29,12 @@ pub struct Lpi {
 }
 
 // A bitmap with its summary, and the configuration of its LPIs. Nothing of them is seen but by the
-// calls below, and each adds what it looked at to steps, which have to be of this value's ledger. A
+// calls below, and each adds what it looked at to the steps of one ledger, that of this value. A
 // step is one of these:
 //
-// - a group of 64 words: its word of the summary, its least priority, and those of its words;
-// - a word of bits: which of its LPIs are enabled, and their bytes.
+// - a group of 64 words, by its word of the summary, its least priority and those of its words, or
+//   by what of these its place needs;
+// - a word of bits, with the bytes of its 64 LPIs.
 #[derive(Drop)]
 pub struct Looks<'a, L: Ledger> {
     words: &'a [u64],
