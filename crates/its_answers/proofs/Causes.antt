@@ -30,6 +30,7 @@ read_causes told rose input status.Spent text was h = (input, (was, h))
 read_causes told rose input status.TooLong text was h = absurd h
 read_causes told rose input status.TraceDiffers text was h = absurd h
 read_causes told rose input status.BadTrace text was h = absurd h
+read_causes told rose input status.Undecided text was h = absurd h
 
 of_script : (Says : Script → Plain → List ℕ → Type 0) (input : List ℕ) (script : Script) (first : Plain) (text : List ℕ) → IsScript input script first
     → Says script first text → OfScript Says input text
@@ -50,6 +51,7 @@ run_causes input script first status.Spent text is h = of_script IsSpentReport i
 run_causes input script first status.TooLong text is h = absurd h
 run_causes input script first status.TraceDiffers text is h = absurd h
 run_causes input script first status.BadTrace text is h = absurd h
+run_causes input script first status.Undecided text is h = absurd h
 
 -- memory ran out in it
 pub so_far : (input : List ℕ) (script : Script) (first : Plain) (report : List ℕ) → IsScript input script first → IsSoFar script first report
@@ -101,3 +103,4 @@ said_causes told rose input status.Spent text was h = absurd h
 said_causes told rose input status.TooLong text was h = absurd h
 said_causes told rose input status.TraceDiffers text was h = (input, (was, h))
 said_causes told rose input status.BadTrace text was h = (input, (was, h))
+said_causes told rose input status.Undecided text was h = absurd h

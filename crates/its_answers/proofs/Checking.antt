@@ -31,6 +31,7 @@ module _ (script : Script) (first : Plain) (report : List ℕ) (starts : IsFirst
   first_said status.TooLong text is = absurd is
   first_said status.TraceDiffers text is = from_first IsDiffering text is
   first_said status.BadTrace text is = from_first IsBadTrace text is
+  first_said status.Undecided text is = absurd is
 
 -- ---- of the bytes
 
@@ -65,3 +66,4 @@ module _ (input : List ℕ) (script : Script) (report : List ℕ) (read : check_
   report_said status.TooLong text is = absurd is
   report_said status.TraceDiffers text is = of_report IsDiffering text is
   report_said status.BadTrace text is = of_report IsBadTrace text is
+  report_said status.Undecided text is = absurd is

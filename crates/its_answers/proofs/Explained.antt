@@ -30,6 +30,7 @@ stops_line last u leg number old new line status.Spent h = (number, h.line_is)
 stops_line last u leg number old new line status.TooLong h = absurd h
 stops_line last u leg number old new line status.TraceDiffers h = absurd h
 stops_line last u leg number old new line status.BadTrace h = absurd h
+stops_line last u leg number old new line status.Undecided h = absurd h
 
 pub ends_line : (last : ℕ) (u : Plain) (leg : Leg) (number : ℕ) (old new line : List ℕ) (s : Status) → LegEnds last u leg number old new s line
     → IsLastLine s new line
@@ -45,6 +46,7 @@ ends_line last u leg number old new line status.Spent h = (number, h.line_is)
 ends_line last u leg number old new line status.TooLong h = absurd h
 ends_line last u leg number old new line status.TraceDiffers h = absurd h
 ends_line last u leg number old new line status.BadTrace h = absurd h
+ends_line last u leg number old new line status.Undecided h = absurd h
 
 -- ---- a run
 
@@ -70,6 +72,7 @@ explains_run input report line more status.Spent h last = record { report = repo
 explains_run input report line more status.TooLong h last = absurd h
 explains_run input report line more status.TraceDiffers h last = absurd h
 explains_run input report line more status.BadTrace h last = absurd h
+explains_run input report line more status.Undecided h last = absurd h
 
 -- the same of a text that begins so
 pub explains_text : (input report line more text : List ℕ) (s : Status) → text ≡ line ++ more → InputCauses input s (report ++ line) → IsLastLine s report line
@@ -117,6 +120,7 @@ explained_causes told rose input status.Spent text was h = (input, (was, h))
 explained_causes told rose input status.TooLong text was h = absurd (never input text status.TooLong (λ line x. x) (λ x. x) (check_of input) h)
 explained_causes told rose input status.TraceDiffers text was h = (input, (was, h))
 explained_causes told rose input status.BadTrace text was h = (input, (was, h))
+explained_causes told rose input status.Undecided text was h = absurd (never input text status.Undecided (λ line x. x) (λ x. x) (check_of input) h)
 
 -- what was read is the input
 
@@ -153,6 +157,7 @@ as_run input rose status.Spent text h fault e = let r = run_says input h.0 text 
 as_run input rose status.TooLong text h fault e = (text, h)
 as_run input rose status.TraceDiffers text h fault e = absurd (run_says input h.0 text status.TraceDiffers fault h.1.0 h.1.1 e)
 as_run input rose status.BadTrace text h fault e = absurd (run_says input h.0 text status.BadTrace fault h.1.0 h.1.1 e)
+as_run input rose status.Undecided text h fault e = absurd h
 
 -- and so has a check
 pub as_check : (input : List ℕ) (rose : Type 0) (s : Status) (text : List ℕ) → ExplainCauses (Some input) rose s text → (p : Script × List (List ℕ))
@@ -169,3 +174,4 @@ as_check input rose status.Spent text h p e = absurd (check_says input h.0 text 
 as_check input rose status.TooLong text h p e = (text, h)
 as_check input rose status.TraceDiffers text h p e = let b = check_says input h.0 text status.TraceDiffers p h.1.0 h.1.1 e in (b.line, (h.0, (h.1.0, b.says)))
 as_check input rose status.BadTrace text h p e = let b = check_says input h.0 text status.BadTrace p h.1.0 h.1.1 e in (b.line, (h.0, (h.1.0, b.says)))
+as_check input rose status.Undecided text h p e = absurd h

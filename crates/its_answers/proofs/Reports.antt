@@ -90,6 +90,7 @@ module _ (script : Script) (first : Plain) (report : List ℕ) where
     trace_said told laws read status.TooLong text is = absurd is
     trace_said told laws read status.TraceDiffers text is = differs told is.0 text read is.1 is.2 is.3
     trace_said told laws read status.BadTrace text is = absurd is
+    trace_said told laws read status.Undecided text is = absurd is
 
     is_bad : (line : ℕ) (text : List ℕ) → read_report script report ≡ Err line → text ≡ trace_refusal line → IsBadTrace script first report text
     is_bad line text read is = record {

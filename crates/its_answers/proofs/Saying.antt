@@ -29,6 +29,7 @@ module _ (script : Script) (first made : Plain) (starts : IsFirstState script.de
   run_said status.TooLong text is = absurd is
   run_said status.TraceDiffers text is = absurd is
   run_said status.BadTrace text is = absurd is
+  run_said status.Undecided text is = absurd is
 
   pub so_far_said : (report : List ℕ) → IsSoFar script first report → ScriptStopsShort script report
   so_far_said report is = inr (from_first IsSoFar report is)
@@ -58,6 +59,7 @@ module _ (input : List ℕ) (script : Script) (read : script_of input ≡ Ok scr
   script_said status.TooLong text is = absurd is
   script_said status.TraceDiffers text is = absurd is
   script_said status.BadTrace text is = absurd is
+  script_said status.Undecided text is = absurd is
 
   pub short_said : (report : List ℕ) → ScriptStopsShort script report → StopsShort input report
   short_said report is = elim is [ inl none ↦ inl none | inr some ↦ inr (of_script IsSoFar report some) ]

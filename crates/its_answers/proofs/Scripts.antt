@@ -274,6 +274,7 @@ stops_here script first i number now old new line leg next later status.Spent r 
 stops_here script first i number now old new line leg next later status.TooLong r n e h = absurd h
 stops_here script first i number now old new line leg next later status.TraceDiffers r n e h = absurd h
 stops_here script first i number now old new line leg next later status.BadTrace r n e h = absurd h
+stops_here script first i number now old new line leg next later status.Undecided r n e h = absurd h
 
 -- the last one did
 pub ends_here : (script : Script) (first : Plain) (i number : ℕ) (now : Plain) (old new line : List ℕ) (leg : Leg) (s : Status)
@@ -291,3 +292,4 @@ ends_here script first i number now old new line leg status.Spent r n e h = is_s
 ends_here script first i number now old new line leg status.TooLong r n e h = absurd h
 ends_here script first i number now old new line leg status.TraceDiffers r n e h = absurd h
 ends_here script first i number now old new line leg status.BadTrace r n e h = absurd h
+ends_here script first i number now old new line leg status.Undecided r n e h = absurd h

@@ -116,3 +116,4 @@ CheckCauses told rose status.Spent text = ⊥
 CheckCauses told rose status.TooLong text = IfSome told (λ all. 16777216 < length all) × (text ≡ codes "refused long\n")
 CheckCauses told rose status.TraceDiffers text = (input : List ℕ) × (WasRead told input × OfReport IsDiffering input text)
 CheckCauses told rose status.BadTrace text = (input : List ℕ) × (WasRead told input × OfReport IsBadTrace input text)
+CheckCauses told rose status.Undecided text = ⊥

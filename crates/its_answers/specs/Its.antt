@@ -124,6 +124,7 @@ RunCauses told rose status.Spent text = (input : List ℕ) × (WasRead told inpu
 RunCauses told rose status.TooLong text = IfSome told (λ all. 16777216 < length all) × (text ≡ codes "refused long\n")
 RunCauses told rose status.TraceDiffers text = ⊥
 RunCauses told rose status.BadTrace text = ⊥
+RunCauses told rose status.Undecided text = ⊥
 
 -- ---- what is explained
 
@@ -175,4 +176,5 @@ ExplainCauses told rose status.ReadFault text = rose × (text ≡ codes "refused
 ExplainCauses told rose status.WriteFault text = ⊥
 ExplainCauses told rose status.Memory text = text ≡ codes "refused memory\n"
 ExplainCauses told rose status.TooLong text = IfSome told (λ all. 16777216 < length all) × (text ≡ codes "refused long\n")
+ExplainCauses told rose status.Undecided text = ⊥
 ExplainCauses told rose s text = (input : List ℕ) × (WasRead told input × ExplainSays input s text)

@@ -81,8 +81,8 @@ fn check_report(
     }
 }
 
-/// Tells why what follows a script is no report.
-fn bad_trace(alloc: Global, error: TraceError) -> Result<Ending, AllocError>
+/// Tells why what follows a script is no report, or doesn't tell what it has to.
+pub fn bad_trace(alloc: Global, error: TraceError) -> Result<Ending, AllocError>
     ensures { IfOk result (λ e. IsBadEnding error e.status (string_bytes e.line)) }
 {
     match error {

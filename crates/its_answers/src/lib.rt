@@ -10,7 +10,7 @@ mod refusals;
 mod status;
 mod telling;
 
-pub use check::say_check;
+pub use check::{bad_trace, say_check};
 pub use ending::Ending;
 pub use refusals::{machine_refusal, script_refusal};
 pub use status::{Status, refusal};

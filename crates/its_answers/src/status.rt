@@ -29,6 +29,8 @@ pub enum Status {
     TraceDiffers = 10,
     /// What follows the script is no report.
     BadTrace = 11,
+    /// So many calls were tried for an order that explains the replies, and no more may be.
+    Undecided = 12,
 }
 
 /// The line of a status that needs no more words, or no byte.

@@ -29,6 +29,7 @@ as_checked input text status.Spent other h = h
 as_checked input text status.TooLong other h = h
 as_checked input text status.TraceDiffers other h = h
 as_checked input text status.BadTrace other h = h
+as_checked input text status.Undecided other h = h
 
 -- ---- of a source
 
@@ -46,6 +47,7 @@ drawn_causes told rose input status.Spent text was h = said_causes told rose inp
 drawn_causes told rose input status.TooLong text was h = said_causes told rose input status.TooLong text was h
 drawn_causes told rose input status.TraceDiffers text was h = said_causes told rose input status.TraceDiffers text was h
 drawn_causes told rose input status.BadTrace text was h = said_causes told rose input status.BadTrace text was h
+drawn_causes told rose input status.Undecided text was h = said_causes told rose input status.Undecided text was h
 
 -- the status is that of a check
 pub drawn_checks : (told : Option (List ℕ)) (rose : Type 0) (s : Status) (text : List ℕ) → DrawCauses told rose s text
@@ -62,3 +64,4 @@ drawn_checks told rose status.Spent text h = (text, h)
 drawn_checks told rose status.TooLong text h = (text, h)
 drawn_checks told rose status.TraceDiffers text h = (text, h)
 drawn_checks told rose status.BadTrace text h = (text, h)
+drawn_checks told rose status.Undecided text h = (text, h)

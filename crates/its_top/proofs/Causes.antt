@@ -10,7 +10,7 @@ use Rattle.its_answers.specs.Legs.{AllEnd}
 use Rattle.its_words.specs.Help.{help_text, version_text}
 use Rattle.its_words.specs.Words.{asked_of}
 use Rattle.its_words.specs.declared.words.Asked.{Asked}
-use Rattle.its_words.specs.declared.words.Asked.TheVariants.{Run, Check, Gen, Explain, Draw, Help, Version}
+use Rattle.its_words.specs.declared.words.Asked.TheVariants.{Run, Check, Gen, Fit, Explain, Draw, Help, Version}
 use Rattle.its_answers.specs.Checked.{CheckCauses}
 use Rattle.its_top.specs.Its.{Causes, WordsCauses, AskedCauses, IsDecided, IsRunDecided, IsCheckDecided, AskedDecides, ReadDecides, TextCauses}
 use Rattle.its_answers.specs.Its.{RunCauses, IsScript, OfScript, IsReport, IsMigrationRefusal, IsSpentReport, ExplainCauses}
@@ -21,7 +21,9 @@ use Rattle.its_answers.specs.declared.status.Status.TheVariants as status
 use Rattle.its_top.proofs.Checks.{check_decided}
 use Rattle.its_answers.proofs.Explained.{as_run, as_check}
 use Rattle.its_draw.specs.Draws.{DrawCauses}
+use Rattle.fit_answers.specs.FitSays.{FitCauses}
 use Rattle.its_draw.proofs.Said.{drawn_checks}
+use Rattle.its_top.proofs.Fits.{fit_decided}
 use Rattle.its_answers.proofs.Once.{same_ok, not_both, first_once, made_once, too_short}
 use Rattle.its_top.proofs.Endings.{ends_well, ends_spent, ends_refused, all_end_well}
 
@@ -51,6 +53,7 @@ long input rose status.Spent text calm h lt = too_short input h.0 h.1.0 lt
 long input rose status.TooLong text calm h lt = inl refl
 long input rose status.TraceDiffers text calm h lt = absurd h
 long input rose status.BadTrace text calm h lt = absurd h
+long input rose status.Undecided text calm h lt = absurd h
 
 -- bytes that are no script don't say anything of one
 no_such : {X : Type 0} (Says : Script → Plain → List ℕ → Type 0) (input read text : List ℕ) (fault : ScriptFault) → WasRead (Some input) read
@@ -73,6 +76,7 @@ no_script input rose status.Spent text calm h le fault e = no_such IsSpentReport
 no_script input rose status.TooLong text calm h le fault e = absurd (omega (arith, h.0, le))
 no_script input rose status.TraceDiffers text calm h le fault e = absurd h
 no_script input rose status.BadTrace text calm h le fault e = absurd h
+no_script input rose status.Undecided text calm h le fault e = absurd h
 
 -- nor does a script whose machine is refused
 no_run : {X : Type 0} (Says : Script → Plain → List ℕ → Type 0) (input read text : List ℕ) (script : Script) (fault : DescFault) → WasRead (Some input) read
@@ -97,6 +101,7 @@ no_machine input rose status.Spent text calm h le script fault e none = no_run I
 no_machine input rose status.TooLong text calm h le script fault e none = absurd (omega (arith, h.0, le))
 no_machine input rose status.TraceDiffers text calm h le script fault e none = absurd h
 no_machine input rose status.BadTrace text calm h le script fault e none = absurd h
+no_machine input rose status.Undecided text calm h le script fault e none = absurd h
 
 -- ---- how a script's run ends
 
@@ -149,6 +154,7 @@ by_runs input rose status.Spent text calm h le script first is expected all =
 by_runs input rose status.TooLong text calm h le script first is expected all = absurd (omega (arith, h.0, le))
 by_runs input rose status.TraceDiffers text calm h le script first is expected all = absurd h
 by_runs input rose status.BadTrace text calm h le script first is expected all = absurd h
+by_runs input rose status.Undecided text calm h le script first is expected all = absurd h
 
 run_decided : (input : List ℕ) (rose : Type 0) (s : Status) (text : List ℕ) → ¬ rose → RunCauses (Some input) rose s text → IsRunDecided input s
 run_decided input rose s text calm ran = record {
@@ -174,6 +180,7 @@ words_end status.Spent text h = absurd h
 words_end status.TooLong text h = absurd h
 words_end status.TraceDiffers text h = absurd h
 words_end status.BadTrace text h = absurd h
+words_end status.Undecided text h = absurd h
 
 gen_end : (signals threads : ℕ) (s : Status) (text : List ℕ) → GenCauses signals threads s text → Ended s status.Ok
 gen_end signals threads status.Ok text h = inl refl
@@ -188,6 +195,7 @@ gen_end signals threads status.Spent text h = absurd h
 gen_end signals threads status.TooLong text h = absurd h
 gen_end signals threads status.TraceDiffers text h = absurd h
 gen_end signals threads status.BadTrace text h = absurd h
+gen_end signals threads status.Undecided text h = absurd h
 
 text_end : (same : List ℕ) (s : Status) (text : List ℕ) → TextCauses same s text → Ended s status.Ok
 text_end same status.Ok text h = inl refl
@@ -202,6 +210,7 @@ text_end same status.Spent text h = absurd h
 text_end same status.TooLong text h = absurd h
 text_end same status.TraceDiffers text h = absurd h
 text_end same status.BadTrace text h = absurd h
+text_end same status.Undecided text h = absurd h
 
 explain_decided : (input : List ℕ) (rose : Type 0) (s : Status) (text : List ℕ) → ¬ rose → ExplainCauses (Some input) rose s text
     → ReadDecides (check_of input) input s
@@ -223,6 +232,7 @@ decided words told rose s text calm h = go (asked_of words) h
     go (Some Run) h = λ input tells. run_decided input rose s text calm (subst (λ (o : Option (List ℕ)). RunCauses o rose s text) tells h)
     go (Some Check) h = λ input tells. check_decided input rose s text calm (subst (λ (o : Option (List ℕ)). CheckCauses o rose s text) tells h)
     go (Some (Gen signals threads)) h = gen_end signals threads s text h
+    go (Some (Fit calls)) h = λ input tells. fit_decided calls input rose s text calm (subst (λ (o : Option (List ℕ)). FitCauses calls o rose s text) tells h)
     go (Some Explain) h = λ input tells. explain_decided input rose s text calm
         (subst (λ (o : Option (List ℕ)). ExplainCauses o rose s text) tells h)
     go (Some Draw) h = λ input tells. draw_decided input rose s text calm (subst (λ (o : Option (List ℕ)). DrawCauses o rose s text) tells h)
@@ -250,6 +260,7 @@ or_write_fault status.Spent = inr (λ e. absurd cc)
 or_write_fault status.TooLong = inr (λ e. absurd cc)
 or_write_fault status.TraceDiffers = inr (λ e. absurd cc)
 or_write_fault status.BadTrace = inr (λ e. absurd cc)
+or_write_fault status.Undecided = inr (λ e. absurd cc)
 
 -- what is said is not a write's fault
 pub no_write_fault : (words : List (List ℕ)) (told : Option (List ℕ)) (rose : Type 0) (s : Status) (text : List ℕ) → Causes words told rose s text
@@ -261,6 +272,7 @@ no_write_fault words told rose s text h e = go (asked_of words) (subst (λ (t : 
     go (Some Run) h = h
     go (Some Check) h = h
     go (Some (Gen signals threads)) h = h
+    go (Some (Fit calls)) h = h.1.1.says
     go (Some Explain) h = h
     go (Some Draw) h = h
     go (Some Help) h = h

@@ -40,6 +40,7 @@ report_said input script first report status.Spent text is h = absurd h
 report_said input script first report status.TooLong text is h = absurd h
 report_said input script first report status.TraceDiffers text is h = record { script = script; first = first; report = report; is_input = is; says = h }
 report_said input script first report status.BadTrace text is h = record { script = script; first = first; report = report; is_input = is; says = h }
+report_said input script first report status.Undecided text is h = absurd h
 
 -- ---- what decides
 
@@ -60,6 +61,7 @@ long input rose status.Spent text calm h lt = absurd h
 long input rose status.TooLong text calm h lt = inl refl
 long input rose status.TraceDiffers text calm h lt = too_short input h.0 h.1.0 lt
 long input rose status.BadTrace text calm h lt = too_short input h.0 h.1.0 lt
+long input rose status.Undecided text calm h lt = absurd h
 
 -- what was read is the input
 read_as : (input read : List ℕ) → WasRead (Some input) read → (x : Result (Script × List (List ℕ)) ScriptFault) → check_of input ≡ x → check_of read ≡ x
@@ -85,6 +87,7 @@ no_script input rose status.Spent text calm h le fault e = absurd h
 no_script input rose status.TooLong text calm h le fault e = absurd (omega (arith, h.0, le))
 no_script input rose status.TraceDiffers text calm h le fault e = no_such IsDiffering input h.0 text fault h.1.0 h.1.1 e
 no_script input rose status.BadTrace text calm h le fault e = no_such IsBadTrace input h.0 text fault h.1.0 h.1.1 e
+no_script input rose status.Undecided text calm h le fault e = absurd h
 
 same_script : (read : List ℕ) (s t : Script) (ls ms : List (List ℕ)) → check_of read ≡ Ok (s, ls) → check_of read ≡ Ok (t, ms) → s ≡ t
 same_script read s t ls ms a b = ap (λ (p : Script × List (List ℕ)). p.0) (same_ok (check_of read) (s, ls) (t, ms) a b)
@@ -115,6 +118,7 @@ no_machine input rose status.Spent text calm h le script lines fault e none = ab
 no_machine input rose status.TooLong text calm h le script lines fault e none = absurd (omega (arith, h.0, le))
 no_machine input rose status.TraceDiffers text calm h le script lines fault e none = no_run IsDiffering input h.0 text script lines fault h.1.0 h.1.1 e none
 no_machine input rose status.BadTrace text calm h le script lines fault e none = no_run IsBadTrace input h.0 text script lines fault h.1.0 h.1.1 e none
+no_machine input rose status.Undecided text calm h le script lines fault e none = absurd h
 
 -- ---- how a report stands to its script's runs
 
@@ -174,6 +178,7 @@ by_report input rose status.TraceDiffers text calm h le script first report is =
     inr (same_stands input h.0 status.TraceDiffers IsDiffering text script first report h.1.0 h.1.1 is (h.1.1.says.told, h.1.1.says.read, h.1.1.says.none))
 by_report input rose status.BadTrace text calm h le script first report is =
     inr (same_stands input h.0 status.BadTrace IsBadTrace text script first report h.1.0 h.1.1 is (h.1.1.says.line, h.1.1.says.read))
+by_report input rose status.Undecided text calm h le script first report is = absurd h
 
 told_once : (r : Result (List LegLines) ℕ) (a b : List LegLines) → r ≡ Ok a → r ≡ Ok b → a ≡ b
 told_once r a b x y = same_ok r a b x y
@@ -192,6 +197,7 @@ is_bad script first read status.Spent line e h = absurd h
 is_bad script first read status.TooLong line e h = absurd h
 is_bad script first read status.TraceDiffers line e h = not_both read h.0 line h.1 e
 is_bad script first read status.BadTrace line e h = refl
+is_bad script first read status.Undecided line e h = absurd h
 
 is_other : (script : Script) (first : Plain) (read : Result (List LegLines) ℕ) (s : Status) (told : List LegLines) → read ≡ Ok told
     → ¬ IsReportOfRun first script.legs (copies_of script.moves) told → Stands script first read s → s ≡ status.TraceDiffers
@@ -208,6 +214,7 @@ is_other script first read status.Spent told e none h = absurd h
 is_other script first read status.TooLong told e none h = absurd h
 is_other script first read status.TraceDiffers told e none h = refl
 is_other script first read status.BadTrace told e none h = not_both read told h.0 e h.1
+is_other script first read status.Undecided told e none h = absurd h
 
 is_well : (script : Script) (first : Plain) (read : Result (List LegLines) ℕ) (s : Status) (told : List LegLines) → read ≡ Ok told
     → IsReportOfRun first script.legs (copies_of script.moves) told → Stands script first read s → s ≡ status.Ok
@@ -224,6 +231,7 @@ is_well script first read status.TooLong told e run h = absurd h
 is_well script first read status.TraceDiffers told e run h =
     absurd (h.2 (subst (λ (ls : List LegLines). IsReportOfRun first script.legs (copies_of script.moves) ls) (told_once read told h.0 e h.1) run))
 is_well script first read status.BadTrace told e run h = not_both read told h.0 e h.1
+is_well script first read status.Undecided told e run h = absurd h
 
 ended : (s expected : Status) (P : Type 0) → (P → s ≡ expected) → (s ≡ status.Memory) ⊎ P → Ended s expected
 ended s expected P f h = elim h [ inl memory ↦ inr memory | inr p ↦ inl (f p) ]

@@ -7,4 +7,5 @@ pub mod Said
 pub mod Endings
 pub mod Checks
 pub mod Summaries
+pub mod Fits
 pub mod Causes

@@ -17,6 +17,8 @@ use Rattle.its_answers.proofs.Causes.{read_causes, said_causes}
 use Rattle.its_answers.proofs.Explained as explained
 use Rattle.its_draw.specs.Draws.{DrawCauses, DrawSays}
 use Rattle.its_draw.proofs.Said.{drawn_causes}
+use Rattle.fit_answers.specs.FitSays.{FitCauses, FitSays}
+use Rattle.fit_answers.proofs.Saying.{fit_causes}
 use Rattle.its_answers.proofs.Told as told_leg
 
 -- ---- of a source
@@ -32,6 +34,10 @@ check_said told rose input s text was h = said_causes told rose input s text was
 pub explain_said : (told : Option (List ℕ)) (rose : Type 0) (input : List ℕ) (s : Status) (text : List ℕ) → WasRead told input → ExplainSays input s text
     → ExplainCauses told rose s text
 explain_said told rose input s text was h = explained.explained_causes told rose input s text was h
+
+pub fit_said : (told : Option (List ℕ)) (rose : Type 0) (bound : ℕ) (input : List ℕ) (s : Status) (text : List ℕ) → WasRead told input
+    → FitSays input bound s text → FitCauses bound told rose s text
+fit_said told rose bound input s text was h = fit_causes told rose bound input s text was h
 
 pub draw_said : (told : Option (List ℕ)) (rose : Type 0) (input : List ℕ) (s : Status) (text : List ℕ) → WasRead told input → DrawSays input s text
     → DrawCauses told rose s text

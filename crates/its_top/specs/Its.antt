@@ -2,7 +2,7 @@
 use Rattle.std.specs.Prelude.{◌≡◌, ◌⊎◌, ℕ, ◌<◌, ◌≤◌, List, length, codes, Option, Some, None, Result, Ok, Err}
 use Rattle.its_plain.specs.Plain.{Plain}
 use Rattle.its_plain.specs.Described.{IsRefused}
-use Rattle.its_plain.specs.Runs.{IsRun}
+use Rattle.its_plain.specs.Runs.{IsRun, Phase}
 use Rattle.its_plain.specs.declared.call.Entry.{Entry}
 use Rattle.its_plain.specs.declared.desc.DescFault.{DescFault}
 use Rattle.event_script.specs.Script.{script_of, check_of}
@@ -13,13 +13,15 @@ use Rattle.its_top.specs.Streams.{IsAtEnd}
 use Rattle.its_history.specs.declared.trace.Leg.{Leg as LegLines}
 use Rattle.its_words.specs.Words.{asked_of}
 use Rattle.its_words.specs.declared.words.Asked.{Asked}
-use Rattle.its_words.specs.declared.words.Asked.TheVariants.{Run, Check, Gen, Explain, Draw, Help, Version}
+use Rattle.its_words.specs.declared.words.Asked.TheVariants.{Run, Check, Gen, Fit, Explain, Draw, Help, Version}
 use Rattle.its_words.specs.Help.{help_text, version_text}
 use Rattle.its_answers.specs.Legs.{HasPlaces, CanMigrate, AllEnd, all_told}
 use Rattle.trace_check.specs.Verdicts.{copies_of, IsReportOfRun}
 use Rattle.its_answers.specs.Checked.{CheckCauses, IsCheckInput, read_report}
 use Rattle.its_answers.specs.Its.{ExplainCauses, IsScript, RunCauses}
+use Rattle.its_fit.specs.declared.told.Told.{Told}
 use Rattle.its_draw.specs.Draws.{DrawCauses}
+use Rattle.fit_answers.specs.FitSays.{FitCauses, IsBadTold, IsFitInput, IsVerdict}
 use Rattle.its_top.specs.Summarized.{GenCauses}
 use Rattle.its_answers.specs.declared.status.Status.{Status}
 use Rattle.its_answers.specs.declared.status.Status.TheVariants as status
@@ -45,6 +47,7 @@ AskedCauses None told rose s text = WordsCauses s text
 AskedCauses (Some Run) told rose s text = RunCauses told rose s text
 AskedCauses (Some Check) told rose s text = CheckCauses told rose s text
 AskedCauses (Some (Gen signals threads)) told rose s text = GenCauses signals threads s text
+AskedCauses (Some (Fit calls)) told rose s text = FitCauses calls told rose s text
 AskedCauses (Some Explain) told rose s text = ExplainCauses told rose s text
 AskedCauses (Some Draw) told rose s text = DrawCauses told rose s text
 AskedCauses (Some Help) told rose s text = TextCauses help_text s text
@@ -59,11 +62,12 @@ Causes words told rose s text = AskedCauses (asked_of words) told rose s text
 abbrev pub AskedReads : Option Asked → Option (List ℕ) → Option (List ℕ) → Type 0
 AskedReads (Some Run) before now = IsAtEnd before now
 AskedReads (Some Check) before now = IsAtEnd before now
+AskedReads (Some (Fit calls)) before now = IsAtEnd before now
 AskedReads (Some Explain) before now = IsAtEnd before now
 AskedReads (Some Draw) before now = IsAtEnd before now
 AskedReads _ before now = now ≡ before
 
--- `run`, `check`, `explain` and `draw` read the source to its end, the others read nothing
+-- `run`, `check`, `fit`, `explain` and `draw` read the source to its end, the others read nothing
 abbrev pub Reads : List (List ℕ) → Option (List ℕ) → Option (List ℕ) → Type 0
 Reads words before now = AskedReads (asked_of words) before now
 
@@ -102,6 +106,17 @@ pub record IsCheckDecided (input : List ℕ) (s : Status) : Type 0 where
       → IsCheckInput input script first report → IsRun first script.legs histories → report ≡ report_text (all_told script first histories)
       → Ends s status.Ok
 
+-- and that of `fit`: what is well formed has a verdict, or memory ran out, and nothing else has one
+pub record IsFitDecided (input : List ℕ) (s : Status) : Type 0 where
+  pub too_long : 16777216 < length input → Ends s status.TooLong
+  pub script_refused : length input ≤ 16777216 → (fault : ScriptFault) → check_of input ≡ Err fault → Ends s status.ScriptRefused
+  pub machine_refused : length input ≤ 16777216 → (script : Script) (lines : List (List ℕ)) (fault : DescFault) → check_of input ≡ Ok (script, lines)
+      → IsRefused script.desc fault → Ends s status.MachineRefused
+  -- more than one phase, a line that isn't as it must be, or another number of calls than of replies
+  pub bad_told : length input ≤ 16777216 → (text : List ℕ) → IsBadTold input text → Ends s status.BadTrace
+  pub answered : length input ≤ 16777216 → (script : Script) (calls : Phase) (told : Told) → IsFitInput input script calls told
+      → IsVerdict s ⊎ (s ≡ status.Memory)
+
 -- that of `explain` is decided as theirs
 abbrev pub ReadDecides : Result (Script × List (List ℕ)) ScriptFault → List ℕ → Status → Type 0
 ReadDecides (Ok read) input s = IsCheckDecided input s
@@ -112,6 +127,7 @@ AskedDecides None told s = Ends s status.WordsRefused
 AskedDecides (Some Run) told s = (input : List ℕ) → told ≡ Some input → IsRunDecided input s
 AskedDecides (Some Check) told s = (input : List ℕ) → told ≡ Some input → IsCheckDecided input s
 AskedDecides (Some (Gen signals threads)) told s = Ends s status.Ok
+AskedDecides (Some (Fit calls)) told s = (input : List ℕ) → told ≡ Some input → IsFitDecided input s
 AskedDecides (Some Explain) told s = (input : List ℕ) → told ≡ Some input → ReadDecides (check_of input) input s
 AskedDecides (Some Draw) told s = (input : List ℕ) → told ≡ Some input → IsCheckDecided input s
 AskedDecides (Some Help) told s = Ends s status.Ok

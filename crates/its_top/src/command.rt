@@ -5,6 +5,7 @@ ghost use Rattle.its_io.specs.Bytes.{Appends};
 ghost use Rattle.its_io.specs.Count.{Rose};
 ghost use Rattle.its_answers.specs.Checked.{CheckCauses};
 ghost use Rattle.its_draw.specs.Draws.{DrawCauses};
+ghost use Rattle.fit_answers.specs.FitSays.{FitCauses};
 ghost use Rattle.its_top.specs.Its.{Causes, Reads, IsDecided};
 ghost use Rattle.its_answers.specs.Its.{RunCauses, ExplainCauses};
 ghost use Rattle.its_top.specs.Streams.{IsAtEnd};
@@ -17,6 +18,7 @@ use crate::explain::explain;
 use crate::say::say;
 use crate::streams::{ReadAllError, read_all, write_both};
 use crate::summarize::summarize;
+use fit_answers::say_fit;
 use its_answers::{Ending, Status, refusal, say_check};
 use its_draw::say_draw;
 use its_io::{Failed, Sink, Source};
@@ -66,7 +68,8 @@ pub fn its<R: Threads + Wait + Sync, S: Source, K: Sink, G: Gate + Sync>(
         (Rose (S.faults source.old) (S.faults source.new)) status text
         × Appends (K.held sink.old) (K.held sink.new) (take n text)) }
 
-    // Where it ends well, `run`, `check`, `explain` and `draw` have read the source to its end.
+    // Where it ends well, `run`, `check`, `fit`, `explain` and `draw` have read the source to its
+    // end.
     ensures to_the_end { result ≡ Status.Ok →
         Reads (map (λ w. string_bytes w) words.now) (S.left source.old) (S.left source.new) }
 
@@ -105,6 +108,7 @@ fn answer_words<R: Threads + Wait + Sync, S: Source, G: Gate + Sync>(
         Ok(Asked::Run) => run_command(rt, alloc, gate, source, report),
         Ok(Asked::Check) => check_command(alloc, source),
         Ok(Asked::Gen { signals, threads }) => gen_command(rt, alloc, gate, signals, threads),
+        Ok(Asked::Fit { calls }) => fit_command(alloc, source, calls),
         Ok(Asked::Explain) => explain_command(rt, alloc, gate, source),
         Ok(Asked::Draw) => draw_command(alloc, source),
         Ok(Asked::Help) => Answer::Helped,
@@ -180,6 +184,25 @@ fn explain_command<R: Threads + Wait + Sync, S: Source, G: Gate + Sync>(
     };
     match explain(rt, alloc, gate, &input) {
         Ok(explained) => Answer::Answered(explained),
+        Err(AllocError) => Answer::Refused(Status::Memory),
+    }
+}
+
+// Whether a history explains what the source says, of which at most so many calls are tried.
+fn fit_command<S: Source>(alloc: Global, source: &mut S, calls: u32) -> Answer
+    ensures caused { AnswerIsCaused
+        (FitCauses calls (S.left source.old) (Rose (S.faults source.old) (S.faults source.new)))
+        [] result }
+    ensures to_the_end { MayEndWell result → IsAtEnd (S.left source.old) (S.left source.new) }
+{
+    let input = match read_all(alloc, source, LIMIT) {
+        Ok(input) => input,
+        Err(ReadAllError::Memory) => return Answer::Refused(Status::Memory),
+        Err(ReadAllError::Failed) => return Answer::Refused(Status::ReadFault),
+        Err(ReadAllError::TooLong) => return Answer::Refused(Status::TooLong),
+    };
+    match say_fit(alloc, &input, calls.into()) {
+        Ok(fitted) => Answer::Answered(fitted),
         Err(AllocError) => Answer::Refused(Status::Memory),
     }
 }

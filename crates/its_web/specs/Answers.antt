@@ -21,6 +21,7 @@ code status.Spent = 8
 code status.TooLong = 9
 code status.TraceDiffers = 10
 code status.BadTrace = 11
+code status.Undecided = 12
 
 -- its status and text are caused so
 abbrev pub IsCaused : (Status → List ℕ → Type 0) → Answer → Type 0

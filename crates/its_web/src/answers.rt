@@ -76,5 +76,6 @@ pub fn number_of(status: Status) -> u32
         Status::TooLong => 9,
         Status::TraceDiffers => 10,
         Status::BadTrace => 11,
+        Status::Undecided => 12,
     }
 }

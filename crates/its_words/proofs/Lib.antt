@@ -4,6 +4,7 @@ pub mod WordKinds
 pub mod Turns
 pub mod Bare
 pub mod Generated
+pub mod Fitted
 pub mod Commands
 pub mod Options
 pub mod Parsed

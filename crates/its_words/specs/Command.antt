@@ -10,6 +10,10 @@ needed_rule name = record (new_rule name) { required = true; action = Some Set }
 abbrev pub gen_app : App
 gen_app = with_rule (with_rule (new_app (codes "gen")) (needed_rule (codes "signals"))) (needed_rule (codes "threads"))
 
+-- a number of calls may be there
+abbrev pub fit_app : App
+fit_app = with_rule (new_app (codes "fit")) (record (new_rule (codes "calls")) { action = Some Set })
+
 -- a command has to be there, and no word asks for the parser's own help
 abbrev pub bare_app : App
 bare_app =
@@ -19,7 +23,10 @@ bare_app =
 abbrev pub running_app : App
 running_app = with_subcommand (with_subcommand (with_subcommand bare_app (new_app (codes "run")).top) (new_app (codes "check")).top) gen_app.top
 
+abbrev pub fitting_app : App
+fitting_app = with_subcommand running_app fit_app.top
+
 abbrev pub its_app : App
 its_app =
-    with_subcommand (with_subcommand (with_subcommand (with_subcommand running_app (new_app (codes "explain")).top) (new_app (codes "draw")).top)
+    with_subcommand (with_subcommand (with_subcommand (with_subcommand fitting_app (new_app (codes "explain")).top) (new_app (codes "draw")).top)
     (new_app (codes "help")).top) (new_app (codes "version")).top

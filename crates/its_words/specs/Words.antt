@@ -7,7 +7,7 @@ use Rattle.clap.specs.Words.{Row, Text, fault_of, first_of, subcommand_of, subco
 use Rattle.clap.specs.declared.ArgMatches.{ArgMatches}
 use Rattle.its_words.specs.Command.{its_app}
 use Rattle.its_words.specs.declared.words.Asked.{Asked}
-use Rattle.its_words.specs.declared.words.Asked.TheVariants.{Run, Check, Gen, Explain, Draw, Help, Version}
+use Rattle.its_words.specs.declared.words.Asked.TheVariants.{Run, Check, Gen, Fit, Explain, Draw, Help, Version}
 
 -- ---- numbers
 
@@ -29,6 +29,20 @@ abbrev pub gen_of : List Text → Option Asked
 gen_of (n ∷ t ∷ []) = gen_of_numbers (number_of 20000 n) (number_of 63 t)
 gen_of _ = None
 
+-- so many calls, and where no number is said 100000
+abbrev pub fit_of_number : Option ℕ → Option Asked
+fit_of_number (Some n) = Some (Fit n)
+fit_of_number None = None
+
+abbrev pub fit_by : Option Text → Option Asked
+fit_by (Some n) = fit_of_number (number_of 1000000000 n)
+fit_by None = Some (Fit 100000)
+
+abbrev pub fit_of : List Text → Option Asked
+fit_of [] = fit_by None
+fit_of (n ∷ []) = fit_by (Some n)
+fit_of _ = None
+
 -- ---- commands
 
 -- a command that takes no words
@@ -41,10 +55,11 @@ asked_by name words =
     if bytes_eq (codes "run") name then alone Run words
     else (if bytes_eq (codes "check") name then alone Check words
     else (if bytes_eq (codes "gen") name then gen_of words
+    else (if bytes_eq (codes "fit") name then fit_of words
     else (if bytes_eq (codes "explain") name then alone Explain words
     else (if bytes_eq (codes "draw") name then alone Draw words
     else (if bytes_eq (codes "help") name then alone Help words
-    else (if bytes_eq (codes "version") name then alone Version words else None))))))
+    else (if bytes_eq (codes "version") name then alone Version words else None)))))))
 
 -- the words without the first `--`, after which no word names an option
 abbrev pub without_separator : List Text → List Text
@@ -92,11 +107,12 @@ asked_in None = None
 asked_in (Some (name, rows)) =
     if bytes_eq name (codes "run") then Some Run
     else (if bytes_eq name (codes "check") then Some Check
+    else (if bytes_eq name (codes "fit") then fit_by (first_of (codes "calls") rows)
     else (if bytes_eq name (codes "explain") then Some Explain
     else (if bytes_eq name (codes "draw") then Some Draw
     else (if bytes_eq name (codes "help") then Some Help
     else (if bytes_eq name (codes "version") then Some Version
-    else gen_by (first_of (codes "signals") rows) (first_of (codes "threads") rows))))))
+    else gen_by (first_of (codes "signals") rows) (first_of (codes "threads") rows)))))))
 
 -- the parser finds no fault with the words
 unfoldable pub is_taken : List Text → Bool
@@ -112,6 +128,7 @@ abbrev pub IsInRange : Asked → Type 0
 IsInRange Run = Unit {0}
 IsInRange Check = Unit {0}
 IsInRange (Gen n t) = (1 ≤ n) × (n ≤ 20000) × (1 ≤ t) × (t ≤ 63)
+IsInRange (Fit n) = (1 ≤ n) × (n ≤ 1000000000)
 IsInRange Explain = Unit {0}
 IsInRange Draw = Unit {0}
 IsInRange Help = Unit {0}

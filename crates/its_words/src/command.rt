@@ -2,7 +2,7 @@
 ghost use Rattle.std.specs.Prelude.{◌≡◌, IfOk, codes, false};
 ghost use Rattle.clap.specs.Words.{app_of, rule_of};
 ghost use Rattle.clap.specs.declared.Command.TheViews.{out-Command};
-ghost use Rattle.its_words.specs.Command.{its_app, running_app, gen_app, needed_rule};
+ghost use Rattle.its_words.specs.Command.{fit_app, fitting_app, gen_app, its_app, needed_rule, running_app};
 
 use clap::{Arg, ArgAction, Command};
 use std::alloc::{AllocError, Global};
@@ -15,14 +15,22 @@ pub fn its_command<'a>(alloc: Global) -> Result<Command<'a>, AllocError>
     let draw = Command::new(alloc, "draw");
     let help = Command::new(alloc, "help");
     let version = Command::new(alloc, "version");
-    running_command(alloc)?
+    fitting_command(alloc)?
         .subcommand(explain)?
         .subcommand(draw)?
         .subcommand(help)?
         .subcommand(version)
 }
 
-// The same with the commands alone that run or check something.
+// The same with the commands alone that run, check or fit something.
+fn fitting_command<'a>(alloc: Global) -> Result<Command<'a>, AllocError>
+    ensures { IfOk result (λ c. app_of c ≡ fitting_app) }
+{
+    let fit = fit_command(alloc)?;
+    running_command(alloc)?.subcommand(fit)
+}
+
+// The same without `fit`.
 fn running_command<'a>(alloc: Global) -> Result<Command<'a>, AllocError>
     ensures { IfOk result (λ c. app_of c ≡ running_app) }
 {
@@ -46,6 +54,15 @@ fn gen_command<'a>(alloc: Global) -> Result<Command<'a>, AllocError>
     let signals = needed(alloc, "signals");
     let threads = needed(alloc, "threads");
     Command::new(alloc, "gen").arg(signals)?.arg(threads)
+}
+
+// `fit` with a number that may be left out.
+fn fit_command<'a>(alloc: Global) -> Result<Command<'a>, AllocError>
+    ensures app { IfOk result (λ c. app_of c ≡ fit_app) }
+    ensures local { IfOk result (λ c. (out-Command c).has_globals ≡ false) }
+{
+    let calls = Arg::new(alloc, "calls").action(ArgAction::Set);
+    Command::new(alloc, "fit").arg(calls)
 }
 
 // An argument that has to be there.

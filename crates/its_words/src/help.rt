@@ -13,6 +13,7 @@ its run       plays the script of standard input, and prints its report
 its check     reads a script, a line `trace` and a report: whether a run has it
 its explain   reads what one of these reads, and says what came of each call
 its draw      reads what `check` reads, and prints a picture of it, an SVG
+its fit N     reads replies with times: is there a history? N calls may be tried
 its gen N T   plays a made script: N signals (1 to 20000) of T threads (1 to 63)
 its help      prints this; so do `its --help` and `its -h`
 its version   prints version, kit and limits; so do `its --version` and `its -V`
@@ -20,7 +21,7 @@ its version   prints version, kit and limits; so do `its --version` and `its -V`
 Statuses: 0 done, 1 no script, 2 no such words, 3 a read failed, 4 a write
 failed, 5 out of memory, 6 no machine, 7 a migration is refused, 8 a leg has
 more calls than places, 9 the input is too long, 10 the report is that of no
-run, 11 no report.
+run, or no history has these replies, 11 no report, 12 nothing was decided.
 
 Limits: 512 virtual processors; 16 windows of guest memory, 64 MiB together;
 DeviceIDs of 16 to 20 bits, EventIDs of 16; LPIs from 8192 to 2^N - 1, N from 14

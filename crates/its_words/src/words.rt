@@ -5,7 +5,7 @@ ghost use Rattle.std.specs.String.{string_bytes};
 ghost use Rattle.clap.specs.Words.{first_value, found_of, subcommand_of, subcommand_rows_of, takes};
 ghost use Rattle.its_words.specs.Command.{its_app};
 ghost use Rattle.its_words.specs.Words as spec;
-ghost use Rattle.its_words.specs.Words.{asked_in, asked_of, gen_by, is_taken, number_of};
+ghost use Rattle.its_words.specs.Words.{asked_in, asked_of, fit_by, gen_by, is_taken, number_of};
 ghost use Rattle.its_words.specs.Words.{option_of, or_else_asked, IsInRange, IsMatched};
 ghost use Rattle.its_words.specs.declared.words.WordsError.TheVariants.{NoMemory};
 
@@ -21,6 +21,12 @@ const MOST_SIGNALS: u32 = 20_000;
 /// How many threads may be asked for.
 const MOST_THREADS: u32 = 63;
 
+/// How many calls `fit` may be asked to try.
+const MOST_CALLS: u32 = 1_000_000_000;
+
+/// How many calls `fit` tries, where no number says so.
+const FEW_CALLS: u32 = 100_000;
+
 /// A command that the words ask for.
 #[derive(Clone, Copy, Debug, PartialEq, Eq)]
 pub enum Asked {
@@ -30,6 +36,8 @@ pub enum Asked {
     Check,
     /// Runs a script of so many threads with so many signals each.
     Gen { signals: u32, threads: u32 },
+    /// Looks for a history that explains replies, and tries at most so many calls.
+    Fit { calls: u32 },
     /// Says of a script, or of one with a report, what is wrong with it or what happens.
     Explain,
     /// Draws the report of a run.
@@ -138,6 +146,7 @@ fn read(matches: &ArgMatches) -> Option<Asked>
     match name {
         "run" => Some(Asked::Run),
         "check" => Some(Asked::Check),
+        "fit" => fitting(matches),
         "explain" => Some(Asked::Explain),
         "draw" => Some(Asked::Draw),
         "help" => Some(Asked::Help),
@@ -155,6 +164,20 @@ fn generation(matches: &ArgMatches) -> Option<Asked>
     let signals = number(matches.get_str("signals")?, MOST_SIGNALS)?;
     let threads = number(matches.get_str("threads")?, MOST_THREADS)?;
     Some(Asked::Gen { signals, threads })
+}
+
+// The number of `fit`.
+fn fitting(matches: &ArgMatches) -> Option<Asked>
+    ensures value { result ≡ fit_by (first_value (found_of matches.now) (codes "calls")) }
+    ensures range { IfSome result IsInRange }
+{
+    match matches.get_str("calls") {
+        Some(text) => {
+            let calls = number(text, MOST_CALLS)?;
+            Some(Asked::Fit { calls })
+        }
+        None => Some(Asked::Fit { calls: FEW_CALLS }),
+    }
 }
 
 // A number from 1 to a last one, of digits without a leading zero.

@@ -1,0 +1,3 @@
+pub mod ToldText
+pub mod Reached
+pub mod FitSays
