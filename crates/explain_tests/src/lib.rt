@@ -10,6 +10,8 @@ mod limit_rows;
 #[cfg(test)]
 mod machine_rows;
 #[cfg(test)]
+mod place_rows;
+#[cfg(test)]
 mod register_rows;
 #[cfg(test)]
 mod report_rows;

@@ -1,0 +1,85 @@
+//! What the machine has at a place of a report.
+use crate::explained::{REPORT, SCRIPT};
+use report_places::say_place;
+use std::alloc::Global;
+
+/// What is said of the report of the script at a place of its leg.
+fn is_listed_so(alloc: Global, leg: usize, place: usize, list: &str) -> Option<bool> {
+    let mut input = String::from_str(alloc, SCRIPT).ok()?;
+    input.push_str("trace\n").ok()?;
+    input.push_str(REPORT).ok()?;
+    let said = say_place(alloc, input.as_bytes(), leg, place).ok()?;
+    Some(said.line.as_str() == list)
+}
+
+#[test]
+fn the_first_state_is_listed(rt: HostRuntime) {
+    let right = is_listed_so(
+        rt.alloc(),
+        0,
+        0,
+        "its 0 GITS_CTLR 0x80000000
+its 0 GITS_CBASER 0x0
+its 0 GITS_CWRITER 0x0
+its 0 GITS_CREADR 0x0
+its 0 GITS_BASER0 0x107000000000200
+its 0 GITS_BASER1 0x407000000000200
+vcpu 0 LPIs on configuration table 0x80030000 IDbits 0 pending table 0x80040000
+vcpu 1 LPIs on configuration table 0x80030000 IDbits 0 pending table 0x80050000
+",
+    );
+    assert_eq!(rt; right, Some(true));
+}
+
+#[test]
+fn a_pending_lpi_is_listed(rt: HostRuntime) {
+    let right = is_listed_so(
+        rt.alloc(),
+        0,
+        12,
+        "its 0 GITS_CTLR 0x1
+its 0 GITS_CBASER 0x8000000080020000
+its 0 GITS_CWRITER 0x60
+its 0 GITS_CREADR 0x60
+its 0 GITS_BASER0 0x8107000080000200
+its 0 GITS_BASER1 0x8407000080010200
+its 0 device 7 table 0x800c0000 bits 4
+its 0 device 7 event 2 LPI 8192 collection 0
+its 0 collection 0 processor 1
+vcpu 0 LPIs on configuration table 0x80030000 IDbits 0 pending table 0x80040000
+vcpu 1 LPIs on configuration table 0x80030000 IDbits 0 pending table 0x80050000
+vcpu 1 LPI 8192 pending, enabled, priority 0xa0
+",
+    );
+    assert_eq!(rt; right, Some(true));
+}
+
+#[test]
+fn an_lpi_that_was_taken_is_not_listed(rt: HostRuntime) {
+    let right = is_listed_so(
+        rt.alloc(),
+        0,
+        13,
+        "its 0 GITS_CTLR 0x1
+its 0 GITS_CBASER 0x8000000080020000
+its 0 GITS_CWRITER 0x60
+its 0 GITS_CREADR 0x60
+its 0 GITS_BASER0 0x8107000080000200
+its 0 GITS_BASER1 0x8407000080010200
+its 0 device 7 table 0x800c0000 bits 4
+its 0 device 7 event 2 LPI 8192 collection 0
+its 0 collection 0 processor 1
+vcpu 0 LPIs on configuration table 0x80030000 IDbits 0 pending table 0x80040000
+vcpu 1 LPIs on configuration table 0x80030000 IDbits 0 pending table 0x80050000
+",
+    );
+    assert_eq!(rt; right, Some(true));
+}
+
+#[test]
+fn a_place_that_there_is_not_is_said_so(rt: HostRuntime) {
+    for (leg, place) in [(0, 14), (1, 0)] {
+        let right = is_listed_so(rt.alloc(), leg, place, "The report has no such place.\n");
+        assert_eq!(rt; right, Some(true), "{leg} {place}");
+    }
+}

@@ -1,0 +1,13 @@
+use Rattle.event_script.specs.Text.{parts}
+use Rattle.report_places.proofs.Starts.{starts_well, no_fault_as, of_input}
+use Rattle.report_places.proofs.say.list.Goals as goal
+
+pub list_report-requires : goal.list_report-requires
+list_report-requires c = starts_well c.args.input.now c.in-Ok.read.script (parts c.in-Ok.read.report.now) c.requires c.in-Ok.ensures
+
+pub unreachable-requires : goal.unreachable-requires
+unreachable-requires c = no_fault_as c.args.input.now c.in-Err-Fault.field-0 _ c.in-Err-Fault.field-0-is c.requires c.in-Err-Fault.ensures
+
+pub returns-in_ok-text-in-Ok : goal.returns-in_ok-text-in-Ok
+returns-in_ok-text-in-Ok c =
+    of_input c.args.input.now c.in-Ok.read.script c.in-Ok.read.report.now c.args.leg c.args.place _ c.requires c.in-Ok.ensures c.in_ok-text-in-Ok.ensures

@@ -1,0 +1,5 @@
+pub mod Fields
+pub mod Reached
+pub mod Lines
+pub mod Lists
+pub mod Says
