@@ -1,5 +1,5 @@
 -- What a machine is asked in numbers: which numbers are in their ranges, and what the plain machine answers and leaves.
-use Rattle.std.specs.Prelude.{◌≡◌, ◌<◌, ◌≤◌, List, slice_index, ℕ, Bool, ◌&&◌, ◌||◌, ◌==◌, nat_lt, nat_le, if◌then◌else◌, length}
+use Rattle.std.specs.Prelude.{List, ℕ, Bool, ◌&&◌, ◌||◌, ◌==◌, nat_lt, nat_le, if◌then◌else◌, length}
 use Rattle.its_plain.specs.Plain.{Plain, redistributor, with_redistributor}
 use Rattle.its_plain.specs.Answer.{ack_of, lowest, best, claimed, taken, signal_reply, reply_of, left}
 use Rattle.its_plain.specs.Translation.{translated}
@@ -60,14 +60,6 @@ after_claim u vcpu intid = with_redistributor u vcpu (taken (redistributor u vcp
 -- the values that the LPI registers of a virtual processor are restored from; zeros where the guest doesn't program them
 abbrev pub stored : Plain → ℕ → RedistributorIn
 stored u vcpu = if u.layout.gicr then as_given (values_of (redistributor u vcpu).bases) else record { ctlr = 0; propbaser = 0; pendbaser = 0 }
-
--- a list has the first of some numbers, as many as it takes
-abbrev pub HasFirst : List ℕ → List ℕ → Type 0
-HasFirst numbers list = (i : ℕ) → i < length numbers → i < length list → slice_index list i ≡ slice_index numbers i
-
--- a list is as it was from a place on
-abbrev pub SameFrom : ℕ → List ℕ → List ℕ → Type 0
-SameFrom n before after = (i : ℕ) → n ≤ i → slice_index after i ≡ slice_index before i
 
 -- ---- writes by address
 
