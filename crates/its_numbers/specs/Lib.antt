@@ -5,4 +5,5 @@ pub mod Faults
 pub mod Lists
 pub mod Mapped
 pub mod Replies
+pub mod Stored
 pub mod Unmade

@@ -1,5 +1,5 @@
-//! What the static libraries have in common: descriptions, faults, replies, lists and answers as the
-//! numbers that they are for callers in other languages, and a box by its pointer.
+//! What the static libraries have in common: descriptions, faults, replies, lists and answers as
+//! the numbers that they are for callers in other languages, and a box by its pointer.
 #![tactic(auto)]
 
 mod codes;

@@ -8,11 +8,11 @@ use Rattle.its_types.specs.declared.machine.Part.{Part}
 use Rattle.its_types.specs.declared.machine.Placed.{Placed}
 use Rattle.its_types.specs.declared.machine.Word.{Word}
 use Rattle.its_plain.specs.History.{after, IsLegal}
-use Rattle.its_plain.specs.Plain.{Plain, Translator, Redistributor, PendState, pend_of, no_translator, no_redistributor, maps_of, redistributor}
+use Rattle.its_plain.specs.Plain.{Plain, Translator, Redistributor, PendState, ConfState, conf_of, pend_of, no_translator, no_redistributor, maps_of, redistributor}
 use Rattle.its_plain.specs.declared.call.Entry.{Entry}
 use Rattle.its_steps.specs.Contents.{Content, Held}
 use Rattle.its_steps.specs.MayCommit.{IsRight}
-use Rattle.its_steps.specs.Parts.{Right}
+use Rattle.its_steps.specs.Parts.{IsOfMachine, Right, Setup}
 use Rattle.its_steps.specs.World.{View, Tries, took, lost_to}
 use Rattle.its_turns.specs.Calls.{GoesOn, got_all}
 use Rattle.its_turns.specs.Contents.{held_before}
@@ -27,7 +27,8 @@ use Rattle.its_shared.specs.declared.unseen.Unseen.TheVariants as unseen
 
 -- ---- the word was read, with parts in hand
 
-module _ (v w x z : View) (t : Tries) (on : GoesOn v t w) (same : IsLone v → w.seen ≡ v.seen) (word : Word) (looks : Looks w word x) (seen_is : z.seen ≡ x.seen) where
+module _ (v w x z : View) (t : Tries) (on : GoesOn v t w) (same : IsLone v → w.seen ≡ v.seen) (word : Word) (looks : Looks w word x)
+    (seen_is : z.seen ≡ x.seen) where
   setup_is : w.setup ≡ v.setup
   setup_is = ap (λ (u : View). u.setup) on.same
 
@@ -63,6 +64,11 @@ module _ (v w x z : View) (p : Part) (c : Content) (took_is : w ≡ took v p c) 
   pub saw_one : HasSeen v word.place z
   saw_one = saw v w x z t on (λ _. ap (λ (u : View). u.seen) took_is) word looks seen_is
       (goes_released v x t (goes_looked v w t on x word looks) z home) one_home
+
+  -- the state is one of the machine
+  pub one_machine : IsOfMachine v.setup (after v.setup.start z.seen)
+  one_machine = subst (λ (s : Setup). IsOfMachine s (after s.start z.seen)) (ap (λ (u : View). u.setup) took_is)
+      (subst (λ (h : List Entry). IsOfMachine w.setup (after w.setup.start h)) (sym seen_is) looks.machine)
 
   pub one_right : Right v.setup word (after v.setup.start z.seen) p c
   one_right = (subst (λ (u : View). AllByRecursion (IsRight v.setup word (after v.setup.start z.seen)) u.held) took_is
@@ -143,6 +149,15 @@ pub pend_is : (u : Plain) (vcpu : ℕ) (s : PendState) → option_map pend_of (s
 pend_is u vcpu s is =
     ap pend_of (sym (unwrap_or-slice_get u.redistributors vcpu no_redistributor))
     ∙ pend_there (slice_get u.redistributors vcpu) s is no_redistributor
+
+conf_there : (o : Option Redistributor) (s : ConfState) → option_map conf_of o ≡ Some s → (d : Redistributor) → conf_of (unwrap_or o d) ≡ s
+conf_there None s is d = absurd cc
+conf_there (Some r) s is d = cc
+
+pub conf_is : (u : Plain) (vcpu : ℕ) (s : ConfState) → option_map conf_of (slice_get u.redistributors vcpu) ≡ Some s → conf_of (redistributor u vcpu) ≡ s
+conf_is u vcpu s is =
+    ap conf_of (sym (unwrap_or-slice_get u.redistributors vcpu no_redistributor))
+    ∙ conf_there (slice_get u.redistributors vcpu) s is no_redistributor
 
 -- ---- what is told of it
 

@@ -26,6 +26,7 @@ mod port;
 mod register_calls;
 mod registers;
 mod step_calls;
+mod stored_look;
 mod telling;
 #[cfg(test)]
 mod tests;

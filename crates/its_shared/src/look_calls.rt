@@ -4,6 +4,7 @@ ghost use Rattle.std.specs.Prelude.{◌≡◌, false, true, None};
 ghost use Rattle.its_numbers.specs.Codes as codes;
 ghost use Rattle.its_numbers.specs.Events.{event_out};
 ghost use Rattle.its_numbers.specs.Mapped.{collections_from, devices_from, mappings_from};
+ghost use Rattle.its_numbers.specs.Stored.{stored};
 ghost use Rattle.its_plain.specs.Plain.{maps_of, pending_of};
 ghost use Rattle.its_shared.specs.Knowing.{has_vcpu};
 ghost use Rattle.its_shared.specs.Seeing.{Shows, all_told, first_told, numbers_told};
@@ -11,9 +12,13 @@ ghost use Rattle.its_shared.specs.Seeing.{written as tables};
 ghost use Rattle.its_shared.specs.Telling.{InPass, machine_of};
 ghost use Rattle.step_views.specs.Destinations.{destination};
 
-use crate::looks::{collections, devices, event as look_event, mappings, pending, written};
+use crate::looks::{
+    collections, devices, event as look_event, mappings, pending, stored_lpi_registers, written,
+};
 use crate::pass::Pass;
-use its_numbers::{CollectionOut, DeviceOut, EventOut, HANDLE, MappingOut, StretchOut};
+use its_numbers::{
+    CollectionOut, DeviceOut, EventOut, HANDLE, MappingOut, RedistributorIn, StretchOut,
+};
 use std::alloc::Global;
 
 /// Where an event leads.
@@ -65,6 +70,30 @@ pub extern "C" fn its_pass_pending(
     pending(pass.lent(), alloc, vcpu, place, list, count)
 }
 
+/// The values that the LPI registers of a redistributor are restored from. All zero where the guest
+/// doesn't program them.
+#[unsafe(no_mangle)]
+pub extern "C" fn its_pass_stored_lpi_registers(
+    pass: &mut Pass,
+    vcpu: u32,
+    place: &mut u64,
+    out: &mut RedistributorIn,
+) -> u32
+    ensures empty { pass.old.known ≡ None
+        → (result ≡ codes.handle) × (place.new ≡ place.old) × (out.new ≡ out.old) }
+    ensures kept { machine_of pass.new ≡ machine_of pass.old }
+    ensures range { InPass pass.old pass.new (λ k l. has_vcpu k vcpu ≡ false
+        → (result ≡ codes.range) × (l ≡ k) × (place.new ≡ place.old) × (out.new ≡ out.old)) }
+    ensures told { InPass pass.old pass.new (λ k l. has_vcpu k vcpu ≡ true → Shows ⊥
+        (λ u before after. after ≡ stored u vcpu)
+        k l result place.old place.new out.old out.new) }
+{
+    if pass.is_empty() {
+        return HANDLE;
+    }
+    stored_lpi_registers(pass.lent(), vcpu, place, out)
+}
+
 /// The tables that a save of this state writes: as many as the list takes, whose rest stays, and
 /// how many there are.
 #[unsafe(no_mangle)]
@@ -101,7 +130,8 @@ pub extern "C" fn its_pass_list_devices(
     ensures empty { pass.old.known ≡ None → (result ≡ codes.handle)
         × (place.new ≡ place.old) × (list.new ≡ list.old) × (count.new ≡ count.old) }
     ensures kept { machine_of pass.new ≡ machine_of pass.old }
-    ensures told { InPass pass.old pass.new (λ k l. Shows ⊥ (first_told (λ u. devices_from (maps_of u 0) from))
+    ensures told { InPass pass.old pass.new (λ k l. Shows ⊥
+        (first_told (λ u. devices_from (maps_of u 0) from))
         k l result place.old place.new (list.old, count.old) (list.new, count.new)) }
 {
     if pass.is_empty() {
@@ -124,7 +154,8 @@ pub extern "C" fn its_pass_list_events(
     ensures empty { pass.old.known ≡ None → (result ≡ codes.handle)
         × (place.new ≡ place.old) × (list.new ≡ list.old) × (count.new ≡ count.old) }
     ensures kept { machine_of pass.new ≡ machine_of pass.old }
-    ensures told { InPass pass.old pass.new (λ k l. Shows ⊥ (first_told (λ u. mappings_from (maps_of u 0) device from))
+    ensures told { InPass pass.old pass.new (λ k l. Shows ⊥
+        (first_told (λ u. mappings_from (maps_of u 0) device from))
         k l result place.old place.new (list.old, count.old) (list.new, count.new)) }
 {
     if pass.is_empty() {
@@ -145,7 +176,8 @@ pub extern "C" fn its_pass_list_collections(
     ensures empty { pass.old.known ≡ None → (result ≡ codes.handle)
         × (place.new ≡ place.old) × (list.new ≡ list.old) × (count.new ≡ count.old) }
     ensures kept { machine_of pass.new ≡ machine_of pass.old }
-    ensures told { InPass pass.old pass.new (λ k l. Shows ⊥ (first_told (λ u. collections_from (maps_of u 0) from))
+    ensures told { InPass pass.old pass.new (λ k l. Shows ⊥
+        (first_told (λ u. collections_from (maps_of u 0) from))
         k l result place.old place.new (list.old, count.old) (list.new, count.new)) }
 {
     if pass.is_empty() {

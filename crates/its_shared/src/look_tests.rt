@@ -1,13 +1,14 @@
 //! What a pass sees of the machine's state: none of it is a call of the history.
 use crate::look_calls::{
     its_pass_event, its_pass_list_collections, its_pass_list_devices, its_pass_list_events,
-    its_pass_pending, its_pass_written,
+    its_pass_pending, its_pass_stored_lpi_registers, its_pass_written,
 };
 use crate::making::its_pass_free;
 use crate::pass::Pass;
 use crate::tests::{drive, shared, signalled};
 use its_numbers::{
-    CollectionOut, DONE, DeviceOut, EventOut, HANDLE, MappingOut, RANGE, StretchOut,
+    CollectionOut, DONE, DeviceOut, EventOut, HANDLE, MappingOut, RANGE, RedistributorIn,
+    StretchOut,
 };
 
 // The code, the place, the cause, the INTID and the virtual processor.
@@ -40,6 +41,16 @@ fn events_and_what_is_pending(rt: HostRuntime) {
         DONE
     );
     assert_eq!(rt; (place, count, list), (22, 1, [8192, 9]));
+    let mut stored = RedistributorIn {
+        ctlr: 9,
+        propbaser: 9,
+        pendbaser: 9,
+    };
+    assert_eq!(rt;
+        its_pass_stored_lpi_registers(&mut root, 1, &mut place, &mut stored),
+        DONE
+    );
+    assert_eq!(rt; (place, stored.ctlr, stored.propbaser), (22, 0, 0));
     assert_eq!(rt;
         its_pass_pending(&mut root, alloc, 2, &mut place, &mut list, &mut count),
         RANGE

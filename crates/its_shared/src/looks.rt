@@ -3,6 +3,7 @@ ghost use Rattle.std.specs.Prelude.{◌≡◌, false, true};
 ghost use Rattle.its_numbers.specs.Codes as codes;
 ghost use Rattle.its_numbers.specs.Events.{event_out};
 ghost use Rattle.its_numbers.specs.Mapped.{collections_from, devices_from, mappings_from};
+ghost use Rattle.its_numbers.specs.Stored.{stored};
 ghost use Rattle.its_plain.specs.Plain.{maps_of, pending_of};
 ghost use Rattle.its_shared.specs.Knowing.{has_vcpu};
 ghost use Rattle.its_shared.specs.Seeing.{Shows, all_told, first_told, numbers_told};
@@ -12,8 +13,8 @@ ghost use Rattle.step_views.specs.Destinations.{destination};
 use crate::port::Port;
 use crate::unseen::Unseen;
 use its_numbers::{
-    BUSY, CollectionOut, DONE, DeviceOut, EventOut, MappingOut, NO_MEMORY, RANGE, StretchOut,
-    event_out,
+    BUSY, CollectionOut, DONE, DeviceOut, EventOut, MappingOut, NO_MEMORY, RANGE, RedistributorIn,
+    StretchOut, event_out,
 };
 use its_types::Placed;
 use std::alloc::Global;
@@ -57,6 +58,33 @@ pub fn pending(
     }
     match port.pending(alloc, vcpu as u16, list) {
         Ok(placed) => counted(placed, place, count),
+        Err(unseen) => number_of(unseen),
+    }
+}
+
+/// What the LPI registers of a redistributor are restored from.
+pub fn stored_lpi_registers(
+    port: &mut Port,
+    vcpu: u32,
+    place: &mut u64,
+    out: &mut RedistributorIn,
+) -> u32
+    ensures desc { port.new.desc ≡ port.old.desc }
+    ensures range { has_vcpu port.old vcpu ≡ false → (result ≡ codes.range)
+        × (port.new ≡ port.old) × (place.new ≡ place.old) × (out.new ≡ out.old) }
+    ensures told { has_vcpu port.old vcpu ≡ true → Shows ⊥
+        (λ u before after. after ≡ stored u vcpu)
+        port.old port.new result place.old place.new out.old out.new }
+{
+    if !port.has_vcpu(vcpu) {
+        return RANGE;
+    }
+    match port.stored_lpi_registers(vcpu as u16) {
+        Ok(placed) => {
+            *place = placed.place;
+            *out = placed.reply;
+            DONE
+        }
         Err(unseen) => number_of(unseen),
     }
 }

@@ -24,7 +24,8 @@ pub fn try_devices(
     requires free { (view pass.old).held ≡ [] }
     ensures of { IsOf machine.now pass.new }
     ensures free { (view pass.new).held ≡ [] }
-    ensures seen { Sees ⊥ (λ u n. ListsFirst (devices_from (maps_of u 0) from) list.old list.new n)
+    ensures seen { Sees ⊥
+        (λ u n. ListsFirst (devices_from (maps_of u 0) from) list.old list.new n)
         (view pass.old) (view pass.new) result }
     ensures only { OnErr result (list.new ≡ list.old) }
 {
@@ -53,7 +54,8 @@ pub fn try_mappings(
     requires free { (view pass.old).held ≡ [] }
     ensures of { IsOf machine.now pass.new }
     ensures free { (view pass.new).held ≡ [] }
-    ensures seen { Sees ⊥ (λ u n. ListsFirst (mappings_from (maps_of u 0) device from) list.old list.new n)
+    ensures seen { Sees ⊥
+        (λ u n. ListsFirst (mappings_from (maps_of u 0) device from) list.old list.new n)
         (view pass.old) (view pass.new) result }
     ensures only { OnErr result (list.new ≡ list.old) }
 {
@@ -81,7 +83,8 @@ pub fn try_collections(
     requires free { (view pass.old).held ≡ [] }
     ensures of { IsOf machine.now pass.new }
     ensures free { (view pass.new).held ≡ [] }
-    ensures seen { Sees ⊥ (λ u n. ListsFirst (collections_from (maps_of u 0) from) list.old list.new n)
+    ensures seen { Sees ⊥
+        (λ u n. ListsFirst (collections_from (maps_of u 0) from) list.old list.new n)
         (view pass.old) (view pass.new) result }
     ensures only { OnErr result (list.new ≡ list.old) }
 {

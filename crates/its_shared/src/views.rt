@@ -1,14 +1,15 @@
-//! What a pass sees of the machine's state, each turn that it needs tried once. None is a call of the
-//! history.
+//! What a pass sees of the machine's state, each turn that it needs tried once. None is a call of
+//! the history.
 ghost use Rattle.std.specs.Prelude.{◌≡◌};
 
 use crate::event_look::try_event;
 use crate::mapped_looks::{try_collections, try_devices, try_mappings};
 use crate::pending_look::try_pending;
 use crate::port::Port;
+use crate::stored_look::try_stored;
 use crate::unseen::Unseen;
 use crate::written_look::try_written;
-use its_numbers::{CollectionOut, DeviceOut, MappingOut, StretchOut};
+use its_numbers::{CollectionOut, DeviceOut, MappingOut, RedistributorIn, StretchOut};
 use its_types::{DeviceId, EventId, Placed, Vcpu};
 use std::alloc::Global;
 use step_views::Destination;
@@ -16,6 +17,7 @@ use step_views::Destination;
 impl Port {
     ghost use Rattle.std.specs.Prelude.{◌≡◌, true, OnErr};
     ghost use Rattle.its_numbers.specs.Mapped.{collections_from, devices_from, mappings_from};
+    ghost use Rattle.its_numbers.specs.Stored.{stored};
     ghost use Rattle.its_plain.specs.Plain.{maps_of, pending_of};
     ghost use Rattle.its_shared.specs.Knowing as spec;
     ghost use Rattle.its_shared.specs.Seeing.{ListsAll, ListsFirst, ListsNumbers, Sees, written};
@@ -49,6 +51,15 @@ impl Port {
         ensures only { OnErr result (list.new ≡ list.old) }
     {
         try_pending(alloc, &self.machine, &mut self.pass, Vcpu(vcpu), list)
+    }
+
+    /// What the LPI registers of a virtual processor are restored from.
+    pub fn stored_lpi_registers(&mut self, vcpu: u16) -> Result<Placed<RedistributorIn>, Unseen>
+        requires { spec.has_vcpu self.old vcpu ≡ true }
+        ensures desc { self.new.desc ≡ self.old.desc }
+        ensures seen { Sees ⊥ (λ u r. r ≡ stored u vcpu) self.old.view self.new.view result }
+    {
+        try_stored(&self.machine, &mut self.pass, Vcpu(vcpu))
     }
 
     /// The tables that a save writes.

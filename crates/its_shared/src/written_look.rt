@@ -11,8 +11,8 @@ use its_types::{Open, Placed};
 use std::alloc::Global;
 use table_save::written_tables;
 
-/// The tables that a save of the state would write: as many as the list takes, whose rest stays, and
-/// how many there are. Takes every part but the shards, each at the first try.
+/// The tables that a save of the state would write: as many as the list takes, whose rest stays,
+/// and how many there are. Takes every part but the shards, each at the first try.
 pub fn try_written(
     alloc: Global,
     machine: &Machine,

@@ -19,7 +19,8 @@ loop-icid-preserved-then-from c =
     record {
       can_next = tt;
       is_finite = tt;
-      told = subst (λ (o : CollectionOut). IsTold spec.collection_out n all c.next.new.self before (slice_set l.list l.at o) (l.at + 1)) (sym c.collection_out.ensures)
+      told = subst (λ (o : CollectionOut). IsTold spec.collection_out n all c.next.new.self before (slice_set l.list l.at o) (l.at + 1))
+          (sym c.collection_out.ensures)
           (told_more spec.collection_out n all before c.next.new.self l.list l.at x
           (subst (λ (xs : List (ℕ × Vcpu)). IsTold spec.collection_out n all xs before l.list l.at) c.in-Some.ensures.steps l.invariant.told) kept room);
     }

@@ -19,7 +19,8 @@ loop-dev-preserved-then-dev-from c =
     record {
       can_next = tt;
       is_finite = tt;
-      told = subst (λ (o : DeviceOut). IsTold spec.device_out n all c.next.new.self before (slice_set l.list l.at o) (l.at + 1)) (sym c.device_out.ensures)
+      told = subst (λ (o : DeviceOut). IsTold spec.device_out n all c.next.new.self before (slice_set l.list l.at o) (l.at + 1))
+          (sym c.device_out.ensures)
           (told_more spec.device_out n all before c.next.new.self l.list l.at x
           (subst (λ (xs : List (ℕ × Device)). IsTold spec.device_out n all xs before l.list l.at) c.in-Some.ensures.steps l.invariant.told) kept room);
     }

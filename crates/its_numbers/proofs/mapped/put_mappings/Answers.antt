@@ -20,7 +20,8 @@ loop-ev-preserved-then-ev-from c =
     record {
       can_next = tt;
       is_finite = tt;
-      told = subst (λ (o : MappingOut). IsTold spec.mapping_out n all (events_left c.next.new.self) before (slice_set l.list l.at o) (l.at + 1)) (sym c.mapping_out.ensures)
+      told = subst (λ (o : MappingOut). IsTold spec.mapping_out n all (events_left c.next.new.self) before (slice_set l.list l.at o) (l.at + 1))
+          (sym c.mapping_out.ensures)
           (told_more spec.mapping_out n all before (events_left c.next.new.self) l.list l.at x
           (subst (λ (xs : List (ℕ × Event)). IsTold spec.mapping_out n all xs before l.list l.at) c.in-Some.ensures.steps l.invariant.told) kept room);
     }

@@ -25,8 +25,10 @@ returns-clause-seen c =
     let right = one_right v w x z (part.Maps 0) (content.Maps t) taken c.look-word.result looks c.put.ensures.view in
     let same : c.deref.result.now.maps.maps ≡ maps_of u 0 = ap (λ (y : Translator). y.maps.maps) c.deref.ensures ∙ sym (maps_are u t right) in
     let e = c.put_devices-count.ensures in
-    let here : ListsFirst (devices_from c.deref.result.now.maps.maps c.args.from) c.args.list.now c.put_devices-count.new.list c.put_devices-count.result =
+    let list = c.put_devices-count.new.list in
+    let count = c.put_devices-count.result in
+    let here : ListsFirst (devices_from c.deref.result.now.maps.maps c.args.from) c.args.list.now list count =
     record { told = e.told; rest = e.rest; same_length = e.length; count_is = e.count } in (
       saw_one v w x z (part.Maps 0) (content.Maps t) taken c.look-word.result looks c.put.ensures.view,
-      subst (λ (m : Maps). ListsFirst (devices_from m c.args.from) c.args.list.now c.put_devices-count.new.list c.put_devices-count.result) same here,
+      subst (λ (m : Maps). ListsFirst (devices_from m c.args.from) c.args.list.now list count) same here,
     )

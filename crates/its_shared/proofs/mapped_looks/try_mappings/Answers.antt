@@ -25,8 +25,10 @@ returns-clause-seen c =
     let right = one_right v w x z (part.Maps 0) (content.Maps t) taken c.look-word.result looks c.put.ensures.view in
     let same : c.deref.result.now.maps.maps ≡ maps_of u 0 = ap (λ (y : Translator). y.maps.maps) c.deref.ensures ∙ sym (maps_are u t right) in
     let e = c.put_mappings-count.ensures in
-    let here : ListsFirst (mappings_from c.deref.result.now.maps.maps c.args.device c.args.from) c.args.list.now c.put_mappings-count.new.list c.put_mappings-count.result =
+    let list = c.put_mappings-count.new.list in
+    let count = c.put_mappings-count.result in
+    let here : ListsFirst (mappings_from c.deref.result.now.maps.maps c.args.device c.args.from) c.args.list.now list count =
     record { told = e.told; rest = e.rest; same_length = e.length; count_is = e.count } in (
       saw_one v w x z (part.Maps 0) (content.Maps t) taken c.look-word.result looks c.put.ensures.view,
-      subst (λ (m : Maps). ListsFirst (mappings_from m c.args.device c.args.from) c.args.list.now c.put_mappings-count.new.list c.put_mappings-count.result) same here,
+      subst (λ (m : Maps). ListsFirst (mappings_from m c.args.device c.args.from) c.args.list.now list count) same here,
     )
