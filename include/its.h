@@ -288,6 +288,26 @@ struct its_stretch_out {
     uint64_t length; /* in bytes */
 };
 
+/* A mapped device (section 5.2.3). */
+struct its_device_out {
+    uint32_t device;
+    uint32_t event_bits; /* of its EventIDs, 1 to 16 */
+    uint64_t itt;        /* address of its interrupt translation table */
+};
+
+/* A mapped event of a device (section 5.2.4). */
+struct its_mapping_out {
+    uint32_t event;
+    uint32_t intid;
+    uint32_t collection; /* which need not be mapped */
+};
+
+/* A mapped collection (section 5.2.5). */
+struct its_collection_out {
+    uint32_t collection;
+    uint32_t vcpu; /* that it goes to */
+};
+
 /*
  * The word that a number of a list has (enum its_list): `buffer` gets its beginning, as many bytes as
  * it takes, with no zero at the end, and `count` how long the word is, at most 24. ITS_RANGE where
@@ -469,6 +489,23 @@ uint32_t its_written(struct its_handle *handle, struct its_stretch_out *list, si
  */
 uint32_t its_migrate(struct its_handle *handle, struct its_save_fault_out *fault);
 
+/*
+ * What is mapped, in pieces: `list` gets the first devices from DeviceID `from` on, by rising DeviceID, as
+ * many as it takes, and `count` how many it has got. Where these are fewer than it takes, no more follow;
+ * else the next piece begins at the last one's DeviceID plus 1. Each call goes through the devices below
+ * `from` too. ITS_HANDLE.
+ */
+uint32_t its_list_devices(struct its_handle *handle, uint32_t from, struct its_device_out *list,
+                          size_t list_len, uint64_t *count);
+
+/* So the mapped events of a device, by rising EventID; of one that isn't mapped there are none. ITS_HANDLE. */
+uint32_t its_list_events(struct its_handle *handle, uint32_t device, uint32_t from,
+                         struct its_mapping_out *list, size_t list_len, uint64_t *count);
+
+/* And so the mapped collections, by rising number. ITS_HANDLE. */
+uint32_t its_list_collections(struct its_handle *handle, uint32_t from,
+                              struct its_collection_out *list, size_t list_len, uint64_t *count);
+
 /* ---- A machine that threads share (libits_shared.a) ---- */
 
 /*
@@ -478,7 +515,8 @@ uint32_t its_migrate(struct its_handle *handle, struct its_save_fault_out *fault
  *
  * Every call that answers ITS_DONE has a place, which it tells: all calls of the machine's passes are one
  * history, counted from 0, in which each is answered as by a machine of one caller that makes the calls of
- * the places before it. A call's place is after those of all calls that its pass has made before it.
+ * the places before it. A call's place is after those of all calls that its pass has made before it. The
+ * last seven only look, and are no calls of the history.
  *
  * No call waits. Where another pass has a part that it needs (the maps, guest memory, a shard of the cache,
  * one of a processor's two parts), or makes a call meanwhile, it answers ITS_BUSY: nothing happened, and the
@@ -567,6 +605,41 @@ uint32_t its_pass_read_memory(struct its_pass *pass, uint64_t address, uint8_t *
  * and answers ITS_FAULT, with its place and `fault`. ITS_NO_MEMORY.
  */
 uint32_t its_pass_save(struct its_pass *pass, uint64_t *place, struct its_save_fault_out *fault);
+
+/*
+ * Calls that look at the machine's state. They are none of its history and get no place in it: `place` is
+ * how many calls the history has, and what is told is so after just these. ITS_SPENT isn't answered, and
+ * ITS_BUSY only where another pass has a part that is needed: the maps, of its_pass_event also what is
+ * pending at the target; of its_pass_pending and its_pass_stored_lpi_registers one of the processor's two
+ * alone; of its_pass_written all but the cache. ITS_HANDLE.
+ */
+uint32_t its_pass_event(struct its_pass *pass, uint32_t device, uint32_t event, uint64_t *place,
+                        struct its_event_out *out);
+
+/* As its_pending. ITS_NO_MEMORY, ITS_RANGE. */
+uint32_t its_pass_pending(struct its_pass *pass, uint32_t vcpu, uint64_t *place, uint32_t *list,
+                          size_t list_len, uint64_t *count);
+
+/* As its_stored_lpi_registers. ITS_RANGE. */
+uint32_t its_pass_stored_lpi_registers(struct its_pass *pass, uint32_t vcpu, uint64_t *place,
+                                       struct its_redistributor_in *out);
+
+/*
+ * As its_written. Where its_pass_save was done at place P, and this tells P + 1, these are the tables that
+ * it wrote. ITS_NO_MEMORY.
+ */
+uint32_t its_pass_written(struct its_pass *pass, uint64_t *place, struct its_stretch_out *list,
+                          size_t list_len, uint64_t *count);
+
+/* As its_list_devices, its_list_events and its_list_collections. */
+uint32_t its_pass_list_devices(struct its_pass *pass, uint32_t from, uint64_t *place,
+                               struct its_device_out *list, size_t list_len, uint64_t *count);
+uint32_t its_pass_list_events(struct its_pass *pass, uint32_t device, uint32_t from,
+                              uint64_t *place, struct its_mapping_out *list, size_t list_len,
+                              uint64_t *count);
+uint32_t its_pass_list_collections(struct its_pass *pass, uint32_t from, uint64_t *place,
+                                   struct its_collection_out *list, size_t list_len,
+                                   uint64_t *count);
 
 #ifdef __cplusplus
 }

@@ -1,4 +1,3 @@
 pub mod HandleBox
 pub mod PieceSteps
-pub mod ToldLists
 pub mod WholeReads

@@ -1,5 +1,5 @@
 -- What a machine is asked in numbers: which numbers are in their ranges, and what the plain machine answers and leaves.
-use Rattle.std.specs.Prelude.{◌≡◌, ◌<◌, ◌≤◌, List, slice_index, ℕ, Bool, ◌&&◌, ◌||◌, ◌==◌, nat_lt, nat_le, if◌then◌else◌, length}
+use Rattle.std.specs.Prelude.{List, ℕ, Bool, ◌&&◌, ◌||◌, ◌==◌, nat_lt, nat_le, length}
 use Rattle.its_plain.specs.Plain.{Plain, redistributor, with_redistributor}
 use Rattle.its_plain.specs.Answer.{ack_of, lowest, best, claimed, taken, signal_reply, reply_of, left}
 use Rattle.its_plain.specs.Translation.{translated}
@@ -9,13 +9,7 @@ use Rattle.its_plain.specs.declared.call.Call.{Call}
 use Rattle.its_plain.specs.declared.call.Reply.{Reply}
 use Rattle.its_plain.specs.declared.call.Signal.{Signal}
 use Rattle.its_types.specs.Ranges.{most_vcpus}
-use Rattle.gicr_regs.specs.Registers.{values_of}
-use Rattle.gicr_regs.specs.declared.values.GicrRegisters.{GicrRegisters}
 use Rattle.its_c.specs.Keeping.{Held}
-use Rattle.its_numbers.specs.declared.numbers.RedistributorIn.{RedistributorIn}
-
-abbrev as_given : GicrRegisters → RedistributorIn
-as_given v = record { ctlr = v.ctlr; propbaser = v.propbaser; pendbaser = v.pendbaser }
 
 -- whether the machine has a virtual processor of this number
 abbrev pub has_vcpu : Plain → ℕ → Bool
@@ -56,18 +50,6 @@ claimed_by u vcpu intid = ack_of (redistributor u vcpu) (claimed (redistributor 
 -- the state once it was acknowledged
 abbrev pub after_claim : Plain → ℕ → ℕ → Plain
 after_claim u vcpu intid = with_redistributor u vcpu (taken (redistributor u vcpu) (claimed (redistributor u vcpu) intid))
-
--- the values that the LPI registers of a virtual processor are restored from; zeros where the guest doesn't program them
-abbrev pub stored : Plain → ℕ → RedistributorIn
-stored u vcpu = if u.layout.gicr then as_given (values_of (redistributor u vcpu).bases) else record { ctlr = 0; propbaser = 0; pendbaser = 0 }
-
--- a list has the first of some numbers, as many as it takes
-abbrev pub HasFirst : List ℕ → List ℕ → Type 0
-HasFirst numbers list = (i : ℕ) → i < length numbers → i < length list → slice_index list i ≡ slice_index numbers i
-
--- a list is as it was from a place on
-abbrev pub SameFrom : ℕ → List ℕ → List ℕ → Type 0
-SameFrom n before after = (i : ℕ) → n ≤ i → slice_index after i ≡ slice_index before i
 
 -- ---- writes by address
 

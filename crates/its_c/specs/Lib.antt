@@ -1,6 +1,5 @@
 pub mod Asked
 pub mod Concerns
-pub mod Events
 pub mod Held
 pub mod Insides
 pub mod Keeping

@@ -3,7 +3,7 @@
 use Rattle.std.specs.Prelude.{◌≡◌, ◌≢◌, ◌<◌, ◌≤◌, ℕ, ◌+◌, ◌*◌, ◌^◌, true, List, length, Some}
 use Rattle.guest_windows.specs.Windows.{Window, inside, read_at}
 use Rattle.guest_windows.specs.Zeros.{AreZero, AreZeroFrom}
-use Rattle.its_c.specs.declared.stretches.StretchOut.{StretchOut}
+use Rattle.its_numbers.specs.declared.lists.StretchOut.{StretchOut}
 use Rattle.owned_machine.specs.Pieces.{piece_count, piece_length, piece_of}
 
 -- the first i pieces of n bytes from an address on lie in windows

@@ -2,7 +2,8 @@
 ghost use Rattle.std.specs.Prelude.{◌≡◌, ◌≢◌, ◌≤◌, true, false, None, is_some, length};
 ghost use Rattle.its_plain.specs.Plain.{pending_of};
 ghost use Rattle.its_c.specs.Asked.{has_vcpu as has, has_mask, shown, acknowledged, first_below};
-ghost use Rattle.its_c.specs.Asked.{claimed_by, after_claim, HasFirst, SameFrom};
+ghost use Rattle.its_c.specs.Asked.{claimed_by, after_claim};
+ghost use Rattle.its_numbers.specs.Lists.{HasFirst, SameFrom};
 ghost use Rattle.its_numbers.specs.Codes as codes;
 ghost use Rattle.its_c.specs.Held.{InMachine, beside};
 ghost use Rattle.its_numbers.specs.Replies as replies;

@@ -1,16 +1,14 @@
 //! What a caller asks beside the life of a machine: writes by address, what a step needs, limits,
 //! tables, pages and words.
 use crate::calls::{its_dma, its_event, its_text};
-use crate::events::EventOut;
 use crate::handle::Handle;
 use crate::making::{its_free, its_new};
 use crate::memory_calls::{its_forget, its_next_page};
 use crate::step_calls::{its_limit, its_needs, its_step, its_written};
-use crate::stretches::StretchOut;
 use crate::tests::{FILLS, NO_STEP, NUMBERS, PENDING, WINDOWS, drive, made};
 use its_numbers::{
-    DONE, DescriptionIn, DmaOut, FAULT, FULL, HANDLE, NO_FAULT, OUTSIDE, RANGE, RequestersIn,
-    SignalOut,
+    DONE, DescriptionIn, DmaOut, EventOut, FAULT, FULL, HANDLE, NO_FAULT, OUTSIDE, RANGE,
+    RequestersIn, SignalOut, StretchOut,
 };
 use std::alloc::Global;
 

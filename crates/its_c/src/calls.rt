@@ -7,15 +7,15 @@ ghost use Rattle.its_plain.specs.Plain.{regs_of};
 ghost use Rattle.owned_machine.specs.Whole.{enables, may_want_memory};
 ghost use Rattle.step_views.specs.Destinations.{destination};
 ghost use Rattle.its_c.specs.Asked.{has_vcpu as has, is_size as is, has_register, signalled};
-ghost use Rattle.its_c.specs.Asked.{stored, is_count, wrote, wrote_reply, wrote_left};
-ghost use Rattle.its_c.specs.Asked.{HasFirst, SameFrom};
+ghost use Rattle.its_c.specs.Asked.{is_count, wrote, wrote_reply, wrote_left};
+ghost use Rattle.its_numbers.specs.Stored.{stored};
+ghost use Rattle.its_numbers.specs.Lists.{HasFirst, SameFrom};
 ghost use Rattle.its_numbers.specs.Codes as codes;
 ghost use Rattle.its_c.specs.Held.{InMachine, InHeld, beside};
-ghost use Rattle.its_c.specs.Events.{event_out};
+ghost use Rattle.its_numbers.specs.Events.{event_out};
 ghost use Rattle.its_numbers.specs.Replies as replies;
 ghost use Rattle.its_c.specs.Words.{has_word, word as text};
 
-use crate::events::EventOut;
 use crate::handle::Handle;
 use crate::interrupts;
 use crate::interrupts::{dma, signal};
@@ -23,7 +23,7 @@ use crate::registers::{
     read_lpi_register, read_register, stored_lpi_registers, write_lpi_register, write_register,
 };
 use crate::words::{put_word, word};
-use its_numbers::{DONE, DmaOut, HANDLE, RANGE, RedistributorIn, SignalOut};
+use its_numbers::{DONE, DmaOut, EventOut, HANDLE, RANGE, RedistributorIn, SignalOut};
 use std::alloc::Global;
 
 /// A read of 4 or 8 bytes of the translator's control frame (IHI 0069, section 12.19).

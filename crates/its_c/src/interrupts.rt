@@ -10,14 +10,14 @@ ghost use Rattle.owned_machine.specs.Whole.{may_want_memory};
 ghost use Rattle.step_views.specs.Destinations.{destination};
 ghost use Rattle.its_numbers.specs.Codes as codes;
 ghost use Rattle.its_c.specs.Keeping.{with_machine};
-ghost use Rattle.its_c.specs.Events.{event_out};
+ghost use Rattle.its_numbers.specs.Events.{event_out};
 ghost use Rattle.its_numbers.specs.Replies as replies;
 
-use crate::events::{EventOut, event_out};
 use crate::kept::Kept;
 use crate::ranges::has_vcpu;
 use its_numbers::{
-    AckOut, DONE, DmaOut, NO_MEMORY, RANGE, SignalOut, ack_out, dma_out, signal_out,
+    AckOut, DONE, DmaOut, EventOut, NO_MEMORY, RANGE, SignalOut, ack_out, dma_out, event_out,
+    signal_out,
 };
 use its_plain::{Bytes64, Call, Reply};
 use its_types::{Addr, DeviceId, EventId, Intid, Vcpu};

@@ -7,14 +7,17 @@ mod ack_calls;
 mod asked_tests;
 mod calls;
 mod commands;
-mod events;
 mod handle;
 mod interrupts;
 mod kept;
 mod lent;
+mod list_calls;
+#[cfg(test)]
+mod list_tests;
 mod making;
 #[cfg(test)]
 mod many_tests;
+mod mapped;
 mod memory;
 mod memory_calls;
 mod pending;
@@ -28,6 +31,4 @@ mod stretches;
 mod tests;
 mod words;
 
-pub use events::EventOut;
 pub use handle::Handle;
-pub use stretches::StretchOut;

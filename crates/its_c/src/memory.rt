@@ -8,9 +8,8 @@ ghost use Rattle.owned_machine.specs.Pieces.{written_to};
 
 use crate::kept::Kept;
 use crate::pieces::{is_stretch, read};
-use crate::stretches::StretchOut;
 use guest_windows::Memory;
-use its_numbers::{DONE, NO_MEMORY, OUTSIDE};
+use its_numbers::{DONE, NO_MEMORY, OUTSIDE, StretchOut};
 use its_types::Addr;
 use std::alloc::Global;
 

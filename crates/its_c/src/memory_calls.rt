@@ -8,8 +8,7 @@ ghost use Rattle.its_c.specs.Pieces.{IsStretch, IsRead, IsNextPage};
 
 use crate::handle::Handle;
 use crate::memory::{forget, memory_of, next_page, read_memory, write_memory};
-use crate::stretches::StretchOut;
-use its_numbers::HANDLE;
+use its_numbers::{HANDLE, StretchOut};
 use std::alloc::Global;
 
 /// Guest memory is read into a buffer.

@@ -1,13 +1,13 @@
 //! The LPIs that are pending.
-ghost use Rattle.std.specs.Prelude.{◌≡◌, ◌≢◌, ◌≤◌, true, false, length, map};
+ghost use Rattle.std.specs.Prelude.{◌≡◌, ◌≢◌, ◌≤◌, true, false, length};
 ghost use Rattle.its_plain.specs.Plain.{pending_of};
-ghost use Rattle.its_c.specs.Asked.{has_vcpu as has, HasFirst, SameFrom};
+ghost use Rattle.its_c.specs.Asked.{has_vcpu as has};
 ghost use Rattle.its_numbers.specs.Codes as codes;
+ghost use Rattle.its_numbers.specs.Lists.{HasFirst, SameFrom};
 
 use crate::kept::Kept;
 use crate::ranges::has_vcpu;
-use its_numbers::{DONE, NO_MEMORY, RANGE};
-use its_types::Intid;
+use its_numbers::{DONE, NO_MEMORY, RANGE, put_lpis};
 use std::alloc::Global;
 
 /// The LPIs that are pending at a virtual processor, rising, as many as the list takes, whose rest
@@ -32,20 +32,7 @@ pub fn pending(kept: &mut Kept, alloc: Global, vcpu: u32, list: &mut [u32], coun
     let Ok(lpis) = kept.machine().pending(alloc, vcpu as usize) else {
         return NO_MEMORY;
     };
-    copy(&lpis, list);
+    put_lpis(&lpis, list);
     *count = lpis.len() as u64;
     DONE
-}
-
-// As many of the LPIs as the list takes.
-fn copy(lpis: &[Intid], list: &mut [u32])
-    ensures copied { HasFirst (map (λ i. i.0) lpis.now) list.new }
-    ensures rest { SameFrom (length lpis.now) list.old list.new }
-    ensures length { length list.new ≡ length list.old }
-{
-    let mut at = 0;
-    while at < lpis.len() && at < list.len() {
-        list[at] = lpis[at].0;
-        at += 1;
-    }
 }

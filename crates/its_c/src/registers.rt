@@ -4,7 +4,8 @@ ghost use Rattle.gits_regs.specs.Registers.{read_reg};
 ghost use Rattle.its_plain.specs.Answer.{written, gicr_read, gicr_written};
 ghost use Rattle.its_plain.specs.Plain.{regs_of};
 ghost use Rattle.owned_machine.specs.Whole.{enables};
-ghost use Rattle.its_c.specs.Asked.{is_size as is, has_vcpu as has, has_register, stored};
+ghost use Rattle.its_c.specs.Asked.{is_size as is, has_vcpu as has, has_register};
+ghost use Rattle.its_numbers.specs.Stored.{stored};
 ghost use Rattle.its_numbers.specs.Codes as codes;
 ghost use Rattle.its_c.specs.Keeping.{with_machine};
 

@@ -9,13 +9,13 @@ ghost use Rattle.its_c.specs.Concerns.{UnconcernedStay, AreConcerned, IsStepCode
 ghost use Rattle.its_numbers.specs.Replies as replies;
 ghost use Rattle.its_c.specs.Saves.{IsSaved, IsMoved, IsUnsaved};
 ghost use Rattle.its_c.specs.Stretches.{needed as reads, written_tables as tables};
-ghost use Rattle.its_c.specs.Stretches.{HasFirstOf, SameRest};
+ghost use Rattle.its_numbers.specs.Lists.{HasFirstOf, SameRest};
 
 use crate::commands::step;
 use crate::handle::Handle;
 use crate::saves::{migrate, save};
-use crate::stretches::{StretchOut, needed, written};
-use its_numbers::{DONE, HANDLE, SaveFaultOut, StepOut};
+use crate::stretches::{needed, written};
+use its_numbers::{DONE, HANDLE, SaveFaultOut, StepOut, StretchOut};
 use std::alloc::Global;
 
 /// The stretches of guest memory that the next step reads: as many as the list takes, whose rest

@@ -1,28 +1,16 @@
 //! Stretches of guest memory, told in lists: what the next step reads, and what a save writes.
 ghost use Rattle.std.specs.Prelude.{◌≡◌, ◌≢◌, ◌⊎◌, ◌≤◌, ◌+◌, length, map, slice_set};
-ghost use Rattle.guest_windows.specs.Fields.{pairs};
 ghost use Rattle.its_types.specs.Ranges.{most_vcpus};
 ghost use Rattle.its_numbers.specs.Codes as codes;
-ghost use Rattle.its_c.specs.Stretches.{needed, written_tables as tables, stretch_out};
-ghost use Rattle.its_c.specs.Stretches.{HasFirstOf, SameRest};
+ghost use Rattle.its_numbers.specs.Lists.{HasFirstOf, SameRest, stretch_out};
+ghost use Rattle.its_c.specs.Stretches.{needed, written_tables as tables};
 ghost use Rattle.step_views.specs.Pairs.{pair_of};
 
 use crate::kept::Kept;
-use its_numbers::{DONE, NO_MEMORY};
-use its_types::Addr;
+use its_numbers::{DONE, NO_MEMORY, StretchOut, put_tables};
 use std::alloc::Global;
 use step_views::{Needs, Stretch, needs};
 use table_save::written_tables;
-
-/// A stretch of guest memory.
-#[repr(C)]
-#[derive(Clone, Copy)]
-pub struct StretchOut {
-    /// A guest physical address.
-    pub address: u64,
-    /// In bytes.
-    pub length: u64,
-}
 
 /// The stretches that the next step reads, as many as the list takes, whose rest stays; and how
 /// many there are.
@@ -83,20 +71,4 @@ pub fn written(kept: &Kept, alloc: Global, list: &mut [StretchOut], count: &mut 
     put_tables(&tables, list);
     *count = tables.len() as u64;
     DONE
-}
-
-// As many of the tables as the list takes.
-fn put_tables(tables: &[(Addr, u64)], list: &mut [StretchOut])
-    ensures told { HasFirstOf (map stretch_out (pairs tables.now)) list.new }
-    ensures rest { SameRest (length tables.now) list.old list.new }
-    ensures length { length list.new ≡ length list.old }
-{
-    let mut at = 0;
-    while at < tables.len() && at < list.len() {
-        list[at] = StretchOut {
-            address: tables[at].0.0,
-            length: tables[at].1,
-        };
-        at += 1;
-    }
 }

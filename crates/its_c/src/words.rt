@@ -1,6 +1,6 @@
 //! The words of numbers, as docs/FORMATS.md prints them.
 ghost use Rattle.std.specs.Prelude.{◌≡◌, length};
-ghost use Rattle.its_c.specs.Asked.{HasFirst, SameFrom};
+ghost use Rattle.its_numbers.specs.Lists.{HasFirst, SameFrom};
 ghost use Rattle.its_c.specs.Words as spec;
 
 /// The word of a number in one of the eight lists of words; the empty one where the list has no

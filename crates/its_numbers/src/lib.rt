@@ -1,17 +1,25 @@
-//! What the static libraries have in common: descriptions, faults, replies and answers as the
-//! numbers that they are for callers in other languages, and a box by its pointer.
+//! What the static libraries have in common: descriptions, faults, replies, lists and answers as
+//! the numbers that they are for callers in other languages, and a box by its pointer.
 #![tactic(auto)]
 
 mod codes;
 mod describing;
+mod events;
 mod faults;
+mod lists;
 mod loose;
+mod mapped;
 mod numbers;
 mod replies;
 
 pub use codes::{BUSY, DONE, FAULT, FULL, HANDLE, NO_MEMORY, OUTSIDE, RANGE, SPENT};
 pub use describing::{description, is_in_range};
+pub use events::{EventOut, event_out};
 pub use faults::{MakeFaultOut, NO_FAULT, SaveFaultOut, make_fault_out, save_fault_out};
+pub use lists::{StretchOut, put_lpis, put_tables};
 pub use loose::Loose;
+pub use mapped::{
+    CollectionOut, DeviceOut, MappingOut, put_collections, put_devices, put_mappings,
+};
 pub use numbers::{DescriptionIn, FillIn, RedistributorIn, RequestersIn, WindowIn};
 pub use replies::{AckOut, DmaOut, SignalOut, StepOut, ack_out, dma_out, signal_out, step_out};

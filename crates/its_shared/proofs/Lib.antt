@@ -1,3 +1,6 @@
 pub mod PassBox
 pub mod Answered
 pub mod Reading
+pub mod Seen
+pub mod Leading
+pub mod SeenWhole

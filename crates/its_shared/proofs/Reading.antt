@@ -2,15 +2,12 @@
 use Rattle.std.proofs.Common.{◌≡◌, ℕ, List, [], ◌∷◌, ◌++◌, length, Option, Some, None, Bool, true, false, refl, sym, subst, if◌then◌else◌}
 use Rattle.guest_windows.proofs.Laws.{length-read_at}
 use Rattle.guest_windows.specs.Windows.{read_at}
-use Rattle.its_types.specs.declared.machine.Placed.{Placed}
-use Rattle.its_plain.specs.Answer.{answer, reply_of, peeked, peek_reply}
+use Rattle.its_plain.specs.Answer.{answer, reply_of, peek_reply}
 use Rattle.its_plain.specs.History.{after, IsLegal}
 use Rattle.its_plain.specs.Plain.{Plain}
 use Rattle.its_plain.specs.declared.call.Entry.{Entry}
 use Rattle.its_plain.specs.declared.call.Reply.{Reply}
-use Rattle.its_plain.specs.declared.call.Reply.TheVariants as reply
 use Rattle.its_steps.specs.World.{View}
-use Rattle.its_turns.specs.Calls.{IsPlaced}
 use Rattle.its_shared.specs.Answers.{Answers, HasCount, IsLong}
 use Rattle.its_shared.specs.Asked as asked
 use Rattle.its_shared.specs.declared.answer.Answer.{Answer}

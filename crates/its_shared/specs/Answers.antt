@@ -1,6 +1,5 @@
 -- What a call of a pass that waits for nobody says of its pass.
 use Rattle.std.specs.Prelude.{◌≡◌, ◌⊎◌, ℕ, length, Result, Ok, Err}
-use Rattle.its_types.specs.declared.machine.Placed.{Placed}
 use Rattle.its_plain.specs.History.{after}
 use Rattle.its_plain.specs.declared.call.Call.{Call}
 use Rattle.its_plain.specs.declared.call.Call.TheVariants as call

@@ -1,5 +1,5 @@
 -- What a pass knows, as the calls speak of it.
-use Rattle.std.specs.Prelude.{◌≡◌, ℕ, ◌^◌, Bool, ◌==◌, ◌&&◌, nat_lt}
+use Rattle.std.specs.Prelude.{ℕ, ◌^◌, Bool, ◌==◌, ◌&&◌, nat_lt}
 use Rattle.its_plain.specs.declared.desc.Desc.{Desc}
 use Rattle.its_steps.specs.Parts.{vcpu_count}
 use Rattle.its_steps.specs.World.{View}

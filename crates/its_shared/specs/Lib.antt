@@ -5,4 +5,5 @@ pub mod Lending
 pub mod Making
 pub mod Owning
 pub mod Ports
+pub mod Seeing
 pub mod Telling

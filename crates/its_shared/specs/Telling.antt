@@ -17,7 +17,6 @@ use Rattle.its_numbers.specs.Replies.{step_out, dma_out}
 use Rattle.its_numbers.specs.declared.faults.SaveFaultOut.{SaveFaultOut}
 use Rattle.its_numbers.specs.declared.replies.DmaOut.{DmaOut}
 use Rattle.its_numbers.specs.declared.replies.StepOut.{StepOut}
-use Rattle.its_steps.specs.World.{View}
 use Rattle.its_shared.specs.Answers.{Answers}
 use Rattle.its_shared.specs.Knowing.{Known}
 use Rattle.its_shared.specs.declared.answer.Answer.{Answer}

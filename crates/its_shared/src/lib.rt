@@ -10,17 +10,28 @@ mod acks;
 mod answer;
 mod attempts;
 mod commands;
+mod event_look;
 mod lent;
+mod look_calls;
+#[cfg(test)]
+mod look_tests;
+mod looks;
 mod making;
+mod mapped_looks;
 mod message_calls;
 mod messages;
 mod pass;
+mod pending_look;
 mod port;
 mod register_calls;
 mod registers;
 mod step_calls;
+mod stored_look;
 mod telling;
 #[cfg(test)]
 mod tests;
+mod unseen;
+mod views;
+mod written_look;
 
 pub use pass::Pass;

@@ -94,7 +94,8 @@ const NO_SIGNAL: SignalOut = SignalOut {
     intid: 0,
 };
 
-fn shared(alloc: Global, root: &mut Pass) -> u32 {
+/// A machine of two processors, and what making it answers.
+pub fn shared(alloc: Global, root: &mut Pass) -> u32 {
     let mut fault = NO_FAULT;
     its_share(
         root,
@@ -110,8 +111,8 @@ fn shared(alloc: Global, root: &mut Pass) -> u32 {
     )
 }
 
-// The guest's driver, by one pass. How many commands ran, and the last place.
-fn drive(pass: &mut Pass) -> (u32, u64) {
+/// The guest's driver, by one pass. How many commands ran, and the last place.
+pub fn drive(pass: &mut Pass) -> (u32, u64) {
     let mut place = 0;
     let mut at = 0x8002_0000;
     for word in &COMMANDS {
@@ -137,7 +138,8 @@ fn drive(pass: &mut Pass) -> (u32, u64) {
     (ran, place)
 }
 
-fn signalled(pass: &mut Pass) -> (u32, u32, u32) {
+/// A message of event 2 of device 7: the code, its cause and its INTID.
+pub fn signalled(pass: &mut Pass) -> (u32, u32, u32) {
     let (mut place, mut out) = (0, NO_SIGNAL);
     let code = its_pass_signal(pass, 7, 2, &mut place, &mut out);
     (code, out.cause, out.intid)

@@ -2,10 +2,10 @@ use Rattle.std.proofs.Common.{◌≡◌, ◌<◌, List, length, map, Some, ap, �
 use Rattle.std.specs.Prelude.{slice_get}
 use Rattle.std.specs.Option.{option_map}
 use Rattle.std.proofs.lemmas.Option.{slice_get-map}
-use Rattle.its_c.specs.Stretches.{stretch_out}
+use Rattle.its_numbers.specs.Lists.{stretch_out}
 use Rattle.step_views.specs.Pairs.{pair_of}
-use Rattle.its_c.specs.declared.stretches.StretchOut.{StretchOut}
-use Rattle.its_c.proofs.ToldLists.{told_so_far, rest_next, length_next, next_left}
+use Rattle.its_numbers.specs.declared.lists.StretchOut.{StretchOut}
+use Rattle.its_numbers.proofs.ToldLists.{told_so_far, rest_next, length_next, next_left}
 use Rattle.its_c.proofs.stretches.put_needs.Goals as goal
 
 pub loop-stretch-preserved : goal.loop-stretch-preserved

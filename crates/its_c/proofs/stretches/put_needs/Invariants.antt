@@ -1,6 +1,6 @@
 use Rattle.std.proofs.Common.{◌≡◌, ◌<◌, ◌+◌, ℕ, drop, length, map}
 use Rattle.std.specs.Prelude.{slice_get}
-use Rattle.its_c.specs.Stretches.{SameRest, stretch_out}
+use Rattle.its_numbers.specs.Lists.{SameRest, stretch_out}
 use Rattle.its_c.proofs.stretches.put_needs.Given as goal
 
 -- the first of them are told, and the rest of the list is as it was

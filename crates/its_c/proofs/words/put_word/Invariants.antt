@@ -1,6 +1,6 @@
 use Rattle.std.proofs.Common.{◌≡◌, ◌<◌, ◌≤◌, ◌-◌, ℕ, length}
 use Rattle.std.specs.Prelude.{slice_index}
-use Rattle.its_c.specs.Asked.{SameFrom}
+use Rattle.its_numbers.specs.Lists.{SameFrom}
 use Rattle.its_c.proofs.words.put_word.Given as goal
 
 -- the first bytes are copied, and the rest of the buffer is as it was

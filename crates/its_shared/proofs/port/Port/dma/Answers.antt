@@ -4,7 +4,7 @@ use Rattle.device_port.specs.declared.told.Dma.{Dma}
 use Rattle.its_plain.specs.Doorbells.{dma_of}
 use Rattle.its_turns.specs.Machines.{view}
 use Rattle.its_turns.specs.declared.machine.Machine.{Machine}
-use Rattle.its_shared.specs.Answers.{Answers, answer_or_none}
+use Rattle.its_shared.specs.Answers.{Answers}
 use Rattle.its_shared.specs.Asked as asked
 use Rattle.its_shared.specs.Knowing.{Known}
 use Rattle.its_shared.specs.declared.answer.Answer.{Answer}

@@ -2,7 +2,6 @@ use Rattle.its_plain.specs.Answer.{save_reply}
 use Rattle.its_plain.specs.declared.call.Call.TheVariants as call
 use Rattle.its_shared.proofs.Answered.{of_known, of_save}
 use Rattle.its_shared.specs.Answers.{answer_or_none}
-use Rattle.its_shared.specs.Asked as asked
 use Rattle.its_shared.specs.Ports.{known_by}
 use Rattle.its_turns.specs.Machines.{view}
 use Rattle.its_shared.proofs.port.Port.save.Goals as goal

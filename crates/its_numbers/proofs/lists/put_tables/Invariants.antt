@@ -1,8 +1,8 @@
 use Rattle.std.proofs.Common.{◌≡◌, ◌<◌, ◌≤◌, ◌-◌, ℕ, length, map}
 use Rattle.std.specs.Prelude.{slice_get}
 use Rattle.guest_windows.specs.Fields.{pairs}
-use Rattle.its_c.specs.Stretches.{SameRest, stretch_out}
-use Rattle.its_c.proofs.stretches.put_tables.Given as goal
+use Rattle.its_numbers.specs.Lists.{SameRest, stretch_out}
+use Rattle.its_numbers.proofs.lists.put_tables.Given as goal
 
 -- the first of them are told, and the rest of the list is as it was
 abbrev pub invariant-loop-at : goal.invariant-loop-at

@@ -4,10 +4,10 @@ use Rattle.std.specs.Option.{option_map}
 use Rattle.std.proofs.lemmas.Option.{slice_get-get_or, slice_get-map}
 use Rattle.guest_windows.specs.Fields.{pairs}
 use Rattle.its_types.specs.declared.ids.Addr.{Addr}
-use Rattle.its_c.specs.Stretches.{stretch_out}
-use Rattle.its_c.specs.declared.stretches.StretchOut.{StretchOut}
-use Rattle.its_c.proofs.ToldLists.{told_next, rest_next, length_next}
-use Rattle.its_c.proofs.stretches.put_tables.Goals as goal
+use Rattle.its_numbers.specs.Lists.{stretch_out}
+use Rattle.its_numbers.specs.declared.lists.StretchOut.{StretchOut}
+use Rattle.its_numbers.proofs.ToldLists.{told_next, rest_next, length_next}
+use Rattle.its_numbers.proofs.lists.put_tables.Goals as goal
 
 pub loop-at-preserved : goal.loop-at-preserved
 loop-at-preserved c =

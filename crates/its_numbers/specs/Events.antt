@@ -1,5 +1,5 @@
 -- Where an event leads, as numbers.
-use Rattle.its_c.specs.declared.events.EventOut.{EventOut}
+use Rattle.its_numbers.specs.declared.events.EventOut.{EventOut}
 use Rattle.step_views.specs.declared.destination.Destination.{Destination}
 use Rattle.step_views.specs.declared.destination.Destination.TheVariants as to
 

@@ -1,6 +1,6 @@
 //! Where an event leads, as numbers.
 ghost use Rattle.std.specs.Prelude.{◌≡◌};
-ghost use Rattle.its_c.specs.Events as spec;
+ghost use Rattle.its_numbers.specs.Events as spec;
 
 use step_views::Destination;
 

@@ -1,0 +1,12 @@
+use Rattle.std.proofs.Common.{subst}
+use Rattle.its_plain.specs.Plain.{maps_of}
+use Rattle.its_numbers.specs.Mapped.{devices_from}
+use Rattle.its_turns.specs.Machines.{view}
+use Rattle.its_shared.specs.Knowing.{Known}
+use Rattle.its_shared.specs.Seeing.{ListsFirst, Sees}
+use Rattle.its_shared.proofs.port.Port.devices.Goals as goal
+
+pub returns-clause-seen : goal.returns-clause-seen
+returns-clause-seen c =
+    subst (λ (k : Known). Sees ⊥ (λ u n. ListsFirst (devices_from (maps_of u 0) c.args.from) c.args.list.now c.try_devices.new.list n) k.view
+    (view c.try_devices.new.pass) c.try_devices.result) c.self.view_is c.try_devices.ensures.seen

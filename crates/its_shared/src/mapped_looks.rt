@@ -1,0 +1,102 @@
+//! What is mapped, seen through a pass.
+ghost use Rattle.std.specs.Prelude.{◌≡◌, [], OnErr};
+ghost use Rattle.its_numbers.specs.Mapped.{collections_from, devices_from, mappings_from};
+ghost use Rattle.its_plain.specs.Plain.{maps_of};
+ghost use Rattle.its_turns.specs.Machines.{view, IsOf};
+ghost use Rattle.its_shared.specs.Seeing.{ListsFirst, Sees};
+
+use crate::unseen::Unseen;
+use its_numbers::{
+    CollectionOut, DeviceOut, MappingOut, put_collections, put_devices, put_mappings,
+};
+use its_turns::{Machine, Pass, Value, look, put, try_take_maps};
+use its_types::{Part, Placed};
+
+/// The mapped devices from a DeviceID on, by rising DeviceID: as many as the list takes, whose rest
+/// stays, and how many it has got. Takes the maps at the first try.
+pub fn try_devices(
+    machine: &Machine,
+    pass: &mut Pass,
+    from: u32,
+    list: &mut [DeviceOut],
+) -> Result<Placed<u64>, Unseen>
+    requires of { IsOf machine.now pass.old }
+    requires free { (view pass.old).held ≡ [] }
+    ensures of { IsOf machine.now pass.new }
+    ensures free { (view pass.new).held ≡ [] }
+    ensures seen { Sees ⊥
+        (λ u n. ListsFirst (devices_from (maps_of u 0) from) list.old list.new n)
+        (view pass.old) (view pass.new) result }
+    ensures only { OnErr result (list.new ≡ list.old) }
+{
+    let maps = match try_take_maps(machine, pass, 0) {
+        Ok(maps) => maps,
+        Err(_) => return Err(Unseen::Busy),
+    };
+    let word = look(machine, pass);
+    let count = put_devices(&maps.maps, from, list);
+    put(machine, pass, Part::Maps(0), Value::Maps(maps));
+    Ok(Placed {
+        place: word.place,
+        reply: count,
+    })
+}
+
+/// The mapped events of a device from an EventID on, as the devices are told.
+pub fn try_mappings(
+    machine: &Machine,
+    pass: &mut Pass,
+    device: u32,
+    from: u32,
+    list: &mut [MappingOut],
+) -> Result<Placed<u64>, Unseen>
+    requires of { IsOf machine.now pass.old }
+    requires free { (view pass.old).held ≡ [] }
+    ensures of { IsOf machine.now pass.new }
+    ensures free { (view pass.new).held ≡ [] }
+    ensures seen { Sees ⊥
+        (λ u n. ListsFirst (mappings_from (maps_of u 0) device from) list.old list.new n)
+        (view pass.old) (view pass.new) result }
+    ensures only { OnErr result (list.new ≡ list.old) }
+{
+    let maps = match try_take_maps(machine, pass, 0) {
+        Ok(maps) => maps,
+        Err(_) => return Err(Unseen::Busy),
+    };
+    let word = look(machine, pass);
+    let count = put_mappings(&maps.maps, device, from, list);
+    put(machine, pass, Part::Maps(0), Value::Maps(maps));
+    Ok(Placed {
+        place: word.place,
+        reply: count,
+    })
+}
+
+/// The mapped collections from a number on, as the devices are told.
+pub fn try_collections(
+    machine: &Machine,
+    pass: &mut Pass,
+    from: u32,
+    list: &mut [CollectionOut],
+) -> Result<Placed<u64>, Unseen>
+    requires of { IsOf machine.now pass.old }
+    requires free { (view pass.old).held ≡ [] }
+    ensures of { IsOf machine.now pass.new }
+    ensures free { (view pass.new).held ≡ [] }
+    ensures seen { Sees ⊥
+        (λ u n. ListsFirst (collections_from (maps_of u 0) from) list.old list.new n)
+        (view pass.old) (view pass.new) result }
+    ensures only { OnErr result (list.new ≡ list.old) }
+{
+    let maps = match try_take_maps(machine, pass, 0) {
+        Ok(maps) => maps,
+        Err(_) => return Err(Unseen::Busy),
+    };
+    let word = look(machine, pass);
+    let count = put_collections(&maps.maps, from, list);
+    put(machine, pass, Part::Maps(0), Value::Maps(maps));
+    Ok(Placed {
+        place: word.place,
+        reply: count,
+    })
+}

@@ -1,0 +1,116 @@
+//! What a pass sees of the machine's state, each turn that it needs tried once. None is a call of
+//! the history.
+ghost use Rattle.std.specs.Prelude.{◌≡◌};
+
+use crate::event_look::try_event;
+use crate::mapped_looks::{try_collections, try_devices, try_mappings};
+use crate::pending_look::try_pending;
+use crate::port::Port;
+use crate::stored_look::try_stored;
+use crate::unseen::Unseen;
+use crate::written_look::try_written;
+use its_numbers::{CollectionOut, DeviceOut, MappingOut, RedistributorIn, StretchOut};
+use its_types::{DeviceId, EventId, Placed, Vcpu};
+use std::alloc::Global;
+use step_views::Destination;
+
+impl Port {
+    ghost use Rattle.std.specs.Prelude.{◌≡◌, true, OnErr};
+    ghost use Rattle.its_numbers.specs.Mapped.{collections_from, devices_from, mappings_from};
+    ghost use Rattle.its_numbers.specs.Stored.{stored};
+    ghost use Rattle.its_plain.specs.Plain.{maps_of, pending_of};
+    ghost use Rattle.its_shared.specs.Knowing as spec;
+    ghost use Rattle.its_shared.specs.Seeing.{ListsAll, ListsFirst, ListsNumbers, Sees, written};
+    ghost use Rattle.step_views.specs.Destinations.{destination};
+
+    /// Where an event leads.
+    pub fn event(&mut self, device: u32, event: u32) -> Result<Placed<Destination>, Unseen>
+        ensures desc { self.new.desc ≡ self.old.desc }
+        ensures seen { Sees ⊥ (λ u d. d ≡ destination u 0 device event)
+            self.old.view self.new.view result }
+    {
+        try_event(
+            &self.machine,
+            &mut self.pass,
+            DeviceId(device),
+            EventId(event),
+        )
+    }
+
+    /// The LPIs that are pending at a virtual processor.
+    pub fn pending(
+        &mut self,
+        alloc: Global,
+        vcpu: u16,
+        list: &mut [u32],
+    ) -> Result<Placed<u64>, Unseen>
+        requires { spec.has_vcpu self.old vcpu ≡ true }
+        ensures desc { self.new.desc ≡ self.old.desc }
+        ensures seen { Sees (Unit {0}) (λ u n. ListsNumbers (pending_of u vcpu) list.old list.new n)
+            self.old.view self.new.view result }
+        ensures only { OnErr result (list.new ≡ list.old) }
+    {
+        try_pending(alloc, &self.machine, &mut self.pass, Vcpu(vcpu), list)
+    }
+
+    /// What the LPI registers of a virtual processor are restored from.
+    pub fn stored_lpi_registers(&mut self, vcpu: u16) -> Result<Placed<RedistributorIn>, Unseen>
+        requires { spec.has_vcpu self.old vcpu ≡ true }
+        ensures desc { self.new.desc ≡ self.old.desc }
+        ensures seen { Sees ⊥ (λ u r. r ≡ stored u vcpu) self.old.view self.new.view result }
+    {
+        try_stored(&self.machine, &mut self.pass, Vcpu(vcpu))
+    }
+
+    /// The tables that a save writes.
+    pub fn written(&mut self, alloc: Global, list: &mut [StretchOut]) -> Result<Placed<u64>, Unseen>
+        ensures desc { self.new.desc ≡ self.old.desc }
+        ensures seen { Sees (Unit {0}) (λ u n. ListsAll (written u) list.old list.new n)
+            self.old.view self.new.view result }
+        ensures only { OnErr result (list.new ≡ list.old) }
+    {
+        try_written(alloc, &self.machine, &mut self.pass, list)
+    }
+
+    /// The mapped devices from a DeviceID on.
+    pub fn devices(&mut self, from: u32, list: &mut [DeviceOut]) -> Result<Placed<u64>, Unseen>
+        ensures desc { self.new.desc ≡ self.old.desc }
+        ensures seen { Sees ⊥
+            (λ u n. ListsFirst (devices_from (maps_of u 0) from) list.old list.new n)
+            self.old.view self.new.view result }
+        ensures only { OnErr result (list.new ≡ list.old) }
+    {
+        try_devices(&self.machine, &mut self.pass, from, list)
+    }
+
+    /// The mapped events of a device from an EventID on.
+    pub fn mappings(
+        &mut self,
+        device: u32,
+        from: u32,
+        list: &mut [MappingOut],
+    ) -> Result<Placed<u64>, Unseen>
+        ensures desc { self.new.desc ≡ self.old.desc }
+        ensures seen { Sees ⊥
+            (λ u n. ListsFirst (mappings_from (maps_of u 0) device from) list.old list.new n)
+            self.old.view self.new.view result }
+        ensures only { OnErr result (list.new ≡ list.old) }
+    {
+        try_mappings(&self.machine, &mut self.pass, device, from, list)
+    }
+
+    /// The mapped collections from a number on.
+    pub fn collections(
+        &mut self,
+        from: u32,
+        list: &mut [CollectionOut],
+    ) -> Result<Placed<u64>, Unseen>
+        ensures desc { self.new.desc ≡ self.old.desc }
+        ensures seen { Sees ⊥
+            (λ u n. ListsFirst (collections_from (maps_of u 0) from) list.old list.new n)
+            self.old.view self.new.view result }
+        ensures only { OnErr result (list.new ≡ list.old) }
+    {
+        try_collections(&self.machine, &mut self.pass, from, list)
+    }
+}
