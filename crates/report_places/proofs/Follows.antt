@@ -12,9 +12,9 @@ use Rattle.its_history.specs.Histories.{Seat, history_lines}
 use Rattle.its_history.specs.declared.trace.EntryLine.{EntryLine}
 use Rattle.trace_check.specs.Cursors.{Progress, threads_of, call_of, with_thread, next_call, opened, taken, more}
 use Rattle.trace_check.specs.Differences.{seat, lines}
-use Rattle.report_places.specs.Fields.{HasCall, progress}
+use Rattle.trace_check.specs.Fields.{HasCall, progress}
 use Rattle.report_places.specs.Reached.{Follows, Makes}
-use Rattle.report_places.specs.declared.cursor.Cursor.{Cursor}
+use Rattle.trace_check.specs.declared.cursor.Cursor.{Cursor}
 use Rattle.trace_check.proofs.Counting.{has_left}
 use Rattle.trace_check.proofs.Following.{HasNext, has_next, next_means}
 use Rattle.trace_check.proofs.Going.{IsAt, IsSettled, at_first, at_opened, opened_settled, at_taken, settled_settled}

@@ -1,4 +1,3 @@
-pub mod Fields
 pub mod Reached
 pub mod Lines
 pub mod Lists

@@ -1,7 +1,6 @@
 //! The machine at a place of a report, and the list of what it has there.
 #![tactic(auto)]
 
-mod cursor;
 mod lines;
 mod list;
 mod listing;

@@ -1,15 +1,15 @@
 //! The machine at a place of a report: the calls before it are made again.
 ghost use Rattle.std.specs.Prelude.{◌≡◌, [], IfOk, OnOk, Some, None, if◌then◌else◌, slice_index_or};
 ghost use Rattle.its_plain.specs.Saved.{IsSavable, moved};
-ghost use Rattle.report_places.specs.Fields.{IsCounted, progress};
+ghost use Rattle.trace_check.specs.Fields.{IsCounted, progress};
 ghost use Rattle.report_places.specs.Reached.{Follows, Makes, PassesOver, Reaches};
 
-use crate::cursor::Cursor;
 use event_script::{Leg, Phase};
 use its_history::{EntryLine, Leg as LegLines, Trace};
 use its_plain::SaveError;
 use owned_machine::Machine;
 use std::alloc::{AllocError, Global};
+use trace_check::Cursor;
 
 /// The machine after so many calls of a leg of a run, in the order of its report. The legs are
 /// counted from 0. None comes where the report has no such leg, or its leg has fewer lines. Nothing

@@ -1,4 +1,4 @@
-use Rattle.report_places.specs.Fields.{progress}
+use Rattle.trace_check.specs.Fields.{progress}
 use Rattle.report_places.proofs.Follows.{going_none, going_more, going_all}
 use Rattle.report_places.proofs.place.follow.Goals as goal
 

@@ -1,4 +1,4 @@
-use Rattle.report_places.specs.Fields.{IsCounted, progress}
+use Rattle.trace_check.specs.Fields.{IsCounted, progress}
 use Rattle.report_places.proofs.Follows.{Going}
 use Rattle.report_places.proofs.place.follow.Given as goal
 

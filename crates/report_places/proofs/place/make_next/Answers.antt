@@ -1,6 +1,6 @@
 use Rattle.std.proofs.Common.{◌≡◌, Some, sym}
 use Rattle.trace_check.specs.Cursors.{next_call}
-use Rattle.report_places.specs.Fields.{progress}
+use Rattle.trace_check.specs.Fields.{progress}
 use Rattle.report_places.proofs.Follows.{has_next_call}
 use Rattle.report_places.proofs.place.make_next.Goals as goal
 
