@@ -11,8 +11,12 @@
  *   S device event      a signal; A v: an acknowledgement by the inner guest; N: each processor goes in and out once
  *   V, X, Q             tables saved, tables restored, pending tables saved
  *   B v low high        the INTIDs from low to high whose bit is set in the pending table of processor v
+ *   F t wait call       a call of thread t, 0 to 3, so many ticks after its last: S, W or V as above, `w v
+ *                       address value` (8 bytes), or `L address`, a look at 64 bytes of memory
+ *   H                   the threads make their calls beside each other; `F t begin end answer` tells each, with ticks
  */
 #include "machine.h"
+#include "threads.h"
 #include <inttypes.h>
 #include <fcntl.h>
 #include <stdio.h>
@@ -129,6 +133,8 @@ static void play_line(char *line)
 	case 'X': printf("X %d\n", restore_tables()); break;
 	case 'Q': printf("Q %d\n", save_pending()); break;
 	case 'B': bits(field[0], field[1], field[2]); break;
+	case 'F': thread_takes(line + 1); break;
+	case 'H': threads_go(); break;
 	default: printf("! line %s", line);
 	}
 }

@@ -5,6 +5,8 @@
 #        run.sh build DIR                           builds the init that plays on KVM: DIR/init
 #        run.sh play|restore|back|way DIR PROGRAM [OPTIONS]         a round of random scripts, on each kernel
 #        run.sh differences DIR PROGRAM [OPTIONS]   the smallest script that shows each difference, on each kernel
+#        run.sh threads DIR PROGRAM [OPTIONS]       rounds of calls that threads make beside each other
+#        run.sh shrink PROGRAM CONSOLE SEED         such a round that fits nowhere, made smaller
 set -eu
 
 here=$(dirname "$(realpath "$0")")
@@ -68,12 +70,13 @@ fetch() {
 }
 
 build() {
-    aarch64-linux-gnu-gcc -O1 -Wall -Wextra -static -o "$1/init" "$here/machine.c" "$here/player.c" "$here/guest.S"
+    aarch64-linux-gnu-gcc -O1 -Wall -Wextra -static -o "$1/init" "$here"/{machine,player,threads}.c "$here/guest.S"
 }
 
 case "${1:-}" in
 fetch) mkdir -p "$2" && fetch "$(realpath "$2")" ;;
 build) mkdir -p "$2" && build "$(realpath "$2")" ;;
-play | restore | back | way | differences) exec python3 "$here/$1.py" "$(realpath "$2")" "$(realpath "$3")" "${@:4}" ;;
-*) sed -n '4,8s/^# //p' "$0" >&2 && exit 2 ;;
+play | restore | back | way | differences | threads) exec python3 "$here/$1.py" "$(realpath "$2")" "$(realpath "$3")" "${@:4}" ;;
+shrink) exec python3 "$here/shrink.py" "$(realpath "$2")" "${@:3}" ;;
+*) sed -n '4,10s/^# //p' "$0" >&2 && exit 2 ;;
 esac
