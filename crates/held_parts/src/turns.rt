@@ -59,7 +59,7 @@ impl<'a, R: Wait> Turns for Waiting<'a, R> {
         match try_take(machine, pass, part) {
             Ok(value) => value,
             Err(_) => {
-                give_way(0);
+                give_way(1);
                 wait_for(self.rt, machine, pass, part)
             }
         }
@@ -77,11 +77,11 @@ fn wait_for<R: Wait>(rt: &R, machine: &Machine, pass: &mut Pass, part: Part) -> 
 {
     let mut attempt = 1u8;
     for _ in rt.forever() {
+        attempt = attempt.saturating_add(1);
         match try_take(machine, pass, part) {
             Ok(value) => return value,
             Err(_) => give_way(attempt),
         }
-        attempt = attempt.saturating_add(1);
     }
     unreachable!()
 }

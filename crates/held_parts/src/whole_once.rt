@@ -8,7 +8,8 @@ ghost use Rattle.its_steps.specs.World.{out};
 ghost use Rattle.its_turns.specs.Machines.{setup, view, IsOf};
 ghost use Rattle.its_turns.specs.Order.{IsInOrder};
 ghost use Rattle.held_parts.specs.Once.{TakesAtOnce, FindsBusy};
-ghost use Rattle.held_parts.specs.Redists.{redists_held, AreRedistsOf, AreBeforeConfs, AreBeforePends};
+ghost use Rattle.held_parts.specs.Redists.{redists_held, AreRedistsOf};
+ghost use Rattle.held_parts.specs.Redists.{AreBeforeConfs, AreBeforePends};
 ghost use Rattle.held_parts.specs.Taking.{LostNone, holding};
 ghost use Rattle.held_parts.specs.Wholes.{IsNoShard, TakesWhole, maps_held, second_held};
 

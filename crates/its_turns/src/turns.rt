@@ -97,11 +97,11 @@ pub fn take<R: Wait>(rt: &R, machine: &Machine, pass: &mut Pass, part: Part) -> 
 {
     let mut attempt = 0u8;
     for _ in rt.forever() {
+        attempt = attempt.saturating_add(1);
         match try_take(machine, pass, part) {
             Ok(value) => return value,
             Err(_) => give_way(attempt),
         }
-        attempt = attempt.saturating_add(1);
     }
     unreachable!()
 }

@@ -3,13 +3,13 @@ use std::hint::spin_loop;
 use std::thread;
 
 /// Waits before a call is tried again that wasn't made, as after a commit that lost. The first try
-/// is number 0, after which it waits for two pauses of the processor, some tens of nanoseconds.
+/// is number 1, after which it waits for two pauses of the processor, some tens of nanoseconds.
 /// After each further one it waits longer, up to 256 pauses, a few microseconds.
 pub fn pause(attempt: u8) {
     let pauses = match attempt {
-        0 => 2,
-        1 => 16,
-        2 => 128,
+        0 | 1 => 2,
+        2 => 16,
+        3 => 128,
         _ => 256,
     };
     for _ in 0..pauses {
@@ -21,7 +21,7 @@ pub fn pause(attempt: u8) {
 /// as well.
 pub fn give_way(attempt: u8) {
     pause(attempt);
-    if attempt >= 3 {
+    if attempt >= 4 {
         thread::yield_now();
     }
 }
