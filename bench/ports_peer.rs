@@ -293,6 +293,7 @@ impl Machine {
     }
 
     fn signal(&self, me: u64, dev: u32, ev: u32) -> (u64, Target) {
+        let mut attempt = 0;
         loop {
             let made = match self.try_signal(me, dev, ev) {
                 Made::Miss => self.signal_by_maps(me, dev, ev),
@@ -301,12 +302,15 @@ impl Machine {
             match made {
                 Made::Done(place, target) => return (place, target),
                 Made::Busy => {
-                    pause();
-                    thread::yield_now();
+                    pause(attempt);
+                    if attempt >= 3 {
+                        thread::yield_now();
+                    }
                 }
-                Made::Raced => pause(),
+                Made::Raced => pause(attempt),
                 Made::Miss => panic!("not mapped"),
             }
+            attempt += 1;
         }
     }
 
@@ -384,8 +388,14 @@ impl Machine {
 }
 
 // As often as the machine that threads share (its_turns, `pause`).
-fn pause() {
-    for _ in 0..256 {
+fn pause(attempt: u32) {
+    let pauses = match attempt {
+        0 => 2,
+        1 => 16,
+        2 => 128,
+        _ => 256,
+    };
+    for _ in 0..pauses {
         spin_loop();
     }
 }
@@ -471,6 +481,7 @@ fn locked_alone(threads: usize, count: u32) -> (u64, Duration) {
     let words: Vec<AtomicU64> = (0..16 * 9).map(|_| AtomicU64::new(0)).collect();
     beside(threads, count, |number, _| {
         let turns = [&words[16 * (2 * number + 1)], &words[16 * (2 * number + 2)]];
+        let mut attempt = 0;
         loop {
             let word = words[0].load(SeqCst);
             for turn in turns {
@@ -483,7 +494,8 @@ fn locked_alone(threads: usize, count: u32) -> (u64, Duration) {
             if made {
                 return;
             }
-            pause();
+            pause(attempt);
+            attempt += 1;
         }
     })
 }

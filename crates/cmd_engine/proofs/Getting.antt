@@ -15,14 +15,13 @@ use Rattle.owned_parts.specs.declared.redist_set.RedistSet.{RedistSet}
 use Rattle.owned_parts.specs.declared.parts.Translator.{Translator as InHand}
 use Rattle.cmd_exec.specs.Needs.{AreTargets}
 use Rattle.its_steps.specs.Contents.{Content, Maps, Held}
-use Rattle.its_steps.specs.Good.{Holds}
 use Rattle.its_steps.specs.Parts.{Setup, translator_count, vcpu_count, stamp_of}
 use Rattle.its_steps.specs.World.{View, out}
 use Rattle.its_turns.specs.Told.{HasStood, Looks}
 use Rattle.its_turns.specs.declared.value.GuestMemory.{GuestMemory}
 use Rattle.held_parts.specs.Redists.{AreNone, AreWanted, AreNoConfs, AreNoPends, AreConfsOfSet, ArePendsOfSet}
-use Rattle.held_parts.specs.Redists.{HoldsNoConf, HoldsNoPend, IsConfIn, IsPendIn}
-use Rattle.held_parts.specs.Shards.{IsShardOf}
+use Rattle.held_parts.specs.Redists.{AreBeforeConfs, AreBeforePends, IsConfIn, IsPendIn}
+use Rattle.held_parts.specs.Shards.{AreBeforeShards, IsShardOf}
 use Rattle.held_parts.specs.Taking.{TakesInTime, TakesOnly, Goes}
 use Rattle.held_parts.proofs.Going.{takes_wider, takes_one, going_first, going_takes, going_looked, goes_wider}
 use Rattle.cmd_engine.specs.Cached.{cached_held, AreWhole}
@@ -34,7 +33,7 @@ use Rattle.cmd_engine.specs.Telling.{ReadLow}
 use Rattle.cmd_engine.specs.declared.cached.Cached.{Cached}
 use Rattle.cmd_engine.specs.declared.cached.Cached.TheVariants as cached
 use Rattle.cmd_engine.specs.declared.hands.Hands.{Hands}
-use Rattle.cmd_engine.proofs.Held.{base_no_conf, base_no_pend, base_no_shard, cached_no_conf, cached_no_pend, none_held}
+use Rattle.cmd_engine.proofs.Held.{base_before_confs, base_before_pends, base_before_shards, cached_before_confs, cached_before_pends, none_held}
 
 -- ---- whose turns are got
 
@@ -143,18 +142,17 @@ module _ (s : Setup) (v : View) (h : Hands) (has : HasInHand s v h) (base : IsBa
   base_only = has.held ∙ (none_held (vcpu_count s) (redists_of h.memory) (cached_held h.its s.shards h.cached (base_held h)) base.bare.confs base.bare.pends
       ∙ ap (λ (c : Cached). cached_held h.its s.shards c (base_held h)) base.bare.cached_is)
 
-  pub base_free : (number : ℕ) → Holds (part.Shard h.its number) v.held → ⊥
-  base_free number holds = base_no_shard h.its h.its (translator_of h.translator.value) h.memory number
-      (subst (Holds (part.Shard h.its number)) base_only holds)
+  pub base_order : AreBeforeShards h.its v.held
+  base_order = subst (AreBeforeShards h.its) (sym base_only) (base_before_shards h.its h.its (translator_of h.translator.value) h.memory)
 
   -- and shards of the translator, and then configurations
-  pub confs_free : (x : View) (c : Cached) → x.held ≡ cached_held h.its s.shards c v.held → HoldsNoConf x.held
-  confs_free x c held = subst HoldsNoConf (sym (held ∙ ap (cached_held h.its s.shards c) base_only))
-      (cached_no_conf h.its s.shards c (base_held h) (base_no_conf h.its (translator_of h.translator.value) h.memory))
+  pub confs_order : (x : View) (c : Cached) → x.held ≡ cached_held h.its s.shards c v.held → AreBeforeConfs x.held
+  confs_order x c held = subst AreBeforeConfs (sym (held ∙ ap (cached_held h.its s.shards c) base_only))
+      (cached_before_confs h.its s.shards c (base_held h) (base_before_confs h.its (translator_of h.translator.value) h.memory))
 
-  pub pends_free : (x : View) (c : Cached) → x.held ≡ cached_held h.its s.shards c v.held → HoldsNoPend x.held
-  pends_free x c held = subst HoldsNoPend (sym (held ∙ ap (cached_held h.its s.shards c) base_only))
-      (cached_no_pend h.its s.shards c (base_held h) (base_no_pend h.its (translator_of h.translator.value) h.memory))
+  pub pends_order : (x : View) (c : Cached) → x.held ≡ cached_held h.its s.shards c v.held → AreBeforePends x.held
+  pends_order x c held = subst AreBeforePends (sym (held ∙ ap (cached_held h.its s.shards c) base_only))
+      (cached_before_pends h.its s.shards c (base_held h) (base_before_pends h.its (translator_of h.translator.value) h.memory))
 
   -- the places of memory before anything is taken
   module _ (b : Box GuestMemory Global) (mem : h.memory ≡ Some b) where

@@ -21,13 +21,14 @@ use Rattle.its_steps.specs.Parts.{Setup, translator_count, vcpu_count}
 use Rattle.its_steps.specs.World.{View, out}
 use Rattle.its_steps.proofs.Owed.{owes_holds}
 use Rattle.its_turns.specs.declared.value.GuestMemory.{GuestMemory}
+use Rattle.its_turns.proofs.Ordering.{in_order_free}
 use Rattle.held_parts.specs.Redists.{at_place, row_of, held_if_in, conf_held, pend_held, confs_held, AreNone, AreWanted, AreNoConfs, AreNoPends}
-use Rattle.held_parts.specs.Redists.{HoldsNoConf, HoldsNoPend}
+use Rattle.held_parts.specs.Redists.{AreBeforeConfs, AreBeforePends}
 use Rattle.held_parts.specs.Rows.{in_row}
-use Rattle.held_parts.specs.Shards.{Ways, shard_held, HoldsNoShard}
+use Rattle.held_parts.specs.Shards.{Ways, shard_held, AreBeforeShards}
 use Rattle.held_parts.proofs.InRows.{row_short, row_none}
-use Rattle.held_parts.proofs.RedistRows.{conf_kind, pend_kind, parts_hold, parts_owe, part_owed, parts_lack, parts_out, parts_apart, parts_stand}
-use Rattle.held_parts.proofs.ShardRows.{shards_owe, shards_lack, shards_out, shards_apart, shards_stand}
+use Rattle.held_parts.proofs.RedistRows.{conf_kind, pend_kind, parts_hold, parts_owe, part_owed, parts_before, parts_out, parts_apart, parts_stand}
+use Rattle.held_parts.proofs.ShardRows.{shards_owe, shards_before, shards_out, shards_apart, shards_stand}
 use Rattle.cmd_engine.specs.Cached.{cached_held, AreWhole}
 use Rattle.cmd_engine.specs.Hands.{Memory, redists_of, memory_held, base_held, redists_held, all_held, HasInHand}
 use Rattle.cmd_engine.specs.declared.cached.Cached.{Cached}
@@ -44,26 +45,17 @@ no_mem : (its : ℕ) (t : Translator) → Holds part.Mem (maps_only its t) → �
 no_mem its t (inl e) = cc
 no_mem its t (inr h) = h
 
-pub base_no_conf : (its : ℕ) (t : Translator) (m : Memory) → HoldsNoConf (memory_held m (maps_only its t))
-base_no_conf its t None v (inl e) = cc
-base_no_conf its t None v (inr h) = h
-base_no_conf its t (Some b) v (inl e) = cc
-base_no_conf its t (Some b) v (inr (inl e)) = cc
-base_no_conf its t (Some b) v (inr (inr h)) = h
+pub base_before_confs : (its : ℕ) (t : Translator) (m : Memory) → AreBeforeConfs (memory_held m (maps_only its t))
+base_before_confs its t None v = (tt, tt)
+base_before_confs its t (Some b) v = (tt, (tt, tt))
 
-pub base_no_pend : (its : ℕ) (t : Translator) (m : Memory) → HoldsNoPend (memory_held m (maps_only its t))
-base_no_pend its t None v (inl e) = cc
-base_no_pend its t None v (inr h) = h
-base_no_pend its t (Some b) v (inl e) = cc
-base_no_pend its t (Some b) v (inr (inl e)) = cc
-base_no_pend its t (Some b) v (inr (inr h)) = h
+pub base_before_pends : (its : ℕ) (t : Translator) (m : Memory) → AreBeforePends (memory_held m (maps_only its t))
+base_before_pends its t None v = (tt, tt)
+base_before_pends its t (Some b) v = (tt, (tt, tt))
 
-pub base_no_shard : (i its : ℕ) (t : Translator) (m : Memory) → HoldsNoShard i (memory_held m (maps_only its t))
-base_no_shard i its t None n (inl e) = cc
-base_no_shard i its t None n (inr h) = h
-base_no_shard i its t (Some b) n (inl e) = cc
-base_no_shard i its t (Some b) n (inr (inl e)) = cc
-base_no_shard i its t (Some b) n (inr (inr h)) = h
+pub base_before_shards : (i its : ℕ) (t : Translator) (m : Memory) → AreBeforeShards i (memory_held m (maps_only its t))
+base_before_shards i its t None n = (tt, tt)
+base_before_shards i its t (Some b) n = (tt, (tt, tt))
 
 base_out : (s : Setup) (its : ℕ) (t : Translator) (m : Memory) → its < translator_count s → AreOut s (memory_held m (maps_only its t))
 base_out s its t None lt = record { stands = (lt, tt); apart = ((λ h. h), tt); out = (refl, tt) }
@@ -75,25 +67,18 @@ base_maps its t (Some b) = inr (inl (refl, refl))
 
 -- ---- shards
 
-conf_free : (its n : ℕ) (ways : Ways) (others : List Held) → HoldsNoConf others → HoldsNoConf (shard_held its n ways ∷ others)
-conf_free its n ways others lacks v (inl e) = cc
-conf_free its n ways others lacks v (inr h) = lacks v h
+-- they come before parts of redistributors
+pub cached_before_confs : (its n : ℕ) (c : Cached) (others : List Held) → AreBeforeConfs others → AreBeforeConfs (cached_held its n c others)
+cached_before_confs its n cached.Nothing others order = order
+cached_before_confs its n (cached.Pair dev ev ways) others order = λ v. (tt, order v)
+cached_before_confs its n cached.Any others order = order
+cached_before_confs its n (cached.Every shards) others order = λ v. shards_before its shards others n (part.Conf v) (λ k lt. tt) (order v)
 
-pub cached_no_conf : (its n : ℕ) (c : Cached) (others : List Held) → HoldsNoConf others → HoldsNoConf (cached_held its n c others)
-cached_no_conf its n cached.Nothing others lacks = lacks
-cached_no_conf its n (cached.Pair dev ev ways) others lacks = conf_free its (shard_number dev.0 ev.0 n) ways others lacks
-cached_no_conf its n cached.Any others lacks = lacks
-cached_no_conf its n (cached.Every shards) others lacks = λ v. shards_lack its shards others n (part.Conf v) (λ k e. cc) (lacks v)
-
-pend_free : (its n : ℕ) (ways : Ways) (others : List Held) → HoldsNoPend others → HoldsNoPend (shard_held its n ways ∷ others)
-pend_free its n ways others lacks v (inl e) = cc
-pend_free its n ways others lacks v (inr h) = lacks v h
-
-pub cached_no_pend : (its n : ℕ) (c : Cached) (others : List Held) → HoldsNoPend others → HoldsNoPend (cached_held its n c others)
-cached_no_pend its n cached.Nothing others lacks = lacks
-cached_no_pend its n (cached.Pair dev ev ways) others lacks = pend_free its (shard_number dev.0 ev.0 n) ways others lacks
-cached_no_pend its n cached.Any others lacks = lacks
-cached_no_pend its n (cached.Every shards) others lacks = λ v. shards_lack its shards others n (part.Pend v) (λ k e. cc) (lacks v)
+pub cached_before_pends : (its n : ℕ) (c : Cached) (others : List Held) → AreBeforePends others → AreBeforePends (cached_held its n c others)
+cached_before_pends its n cached.Nothing others order = order
+cached_before_pends its n (cached.Pair dev ev ways) others order = λ v. (tt, order v)
+cached_before_pends its n cached.Any others order = order
+cached_before_pends its n (cached.Every shards) others order = λ v. shards_before its shards others n (part.Pend v) (λ k lt. tt) (order v)
 
 cached_owes : (its n : ℕ) (c : Cached) (others : List Held) (p : Part) (x : Content) → Owes p x others → Owes p x (cached_held its n c others)
 cached_owes its n cached.Nothing others p x o = o
@@ -101,18 +86,18 @@ cached_owes its n (cached.Pair dev ev ways) others p x o = inr o
 cached_owes its n cached.Any others p x o = o
 cached_owes its n (cached.Every shards) others p x o = shards_owe its shards others n p x o
 
-cached_out : (s : Setup) (its : ℕ) (c : Cached) (others : List Held) → AreWhole s its c → HoldsNoShard its others → AreOut s others
+cached_out : (s : Setup) (its : ℕ) (c : Cached) (others : List Held) → AreWhole s its c → AreBeforeShards its others → AreOut s others
     → AreOut s (cached_held its s.shards c others)
-cached_out s its cached.Nothing others whole lacks o = o
-cached_out s its (cached.Pair dev ev ways) others whole lacks o = record {
+cached_out s its cached.Nothing others whole order o = o
+cached_out s its (cached.Pair dev ev ways) others whole order o = record {
   stands = (whole, o.stands);
-  apart = (lacks (shard_number dev.0 ev.0 s.shards), o.apart);
+  apart = (in_order_free (part.Shard its (shard_number dev.0 ev.0 s.shards)) others (order (shard_number dev.0 ev.0 s.shards)), o.apart);
   out = (refl, o.out);
 }
-cached_out s its cached.Any others whole lacks o = o
-cached_out s its (cached.Every shards) others whole lacks o = record {
+cached_out s its cached.Any others whole order o = o
+cached_out s its (cached.Every shards) others whole order o = record {
   stands = shards_stand its shards others s s.shards whole.0 (omega arith) o.stands;
-  apart = shards_apart its shards others s.shards lacks o.apart;
+  apart = shards_apart its shards others s.shards order o.apart;
   out = shards_out its shards others s.shards o.out;
 }
 
@@ -141,9 +126,9 @@ none_held n redists others no_confs no_pends =
 pub bare_held : (n : ℕ) (m : Memory) → m ≡ None → (others : List Held) → redists_held n (redists_of m) others ≡ others
 bare_held n m none others = ap (λ (o : Memory). redists_held n (redists_of o) others) none ∙ none_held n (no_redists 0) others (λ k. refl) (λ k. refl)
 
--- what is pending is not held before it is taken
-pub confs_no_pend : (n : ℕ) (redists : RedistParts) (others : List Held) → HoldsNoPend others → HoldsNoPend (confs_held redists n others)
-confs_no_pend n redists others lacks v = parts_lack conf_held conf conf_kind redists.confs others n (part.Pend v) (λ k e. cc) (lacks v)
+-- configurations come before what is pending
+pub confs_before_pends : (n : ℕ) (redists : RedistParts) (others : List Held) → AreBeforePends others → AreBeforePends (confs_held redists n others)
+confs_before_pends n redists others order v = parts_before conf_held conf conf_kind redists.confs others n (part.Pend v) (λ k lt. tt) (order v)
 
 -- ---- all of it
 
@@ -170,26 +155,26 @@ module _ (s : Setup) (v : View) (h : Hands) (has : HasInHand s v h) where
   abbrev read : List Held
   read = confs_held rs n rest
 
-  no_conf : HoldsNoConf rest
-  no_conf = cached_no_conf h.its s.shards h.cached (base_held h) (base_no_conf h.its t h.memory)
+  before_confs : AreBeforeConfs rest
+  before_confs = cached_before_confs h.its s.shards h.cached (base_held h) (base_before_confs h.its t h.memory)
 
-  no_pend : HoldsNoPend read
-  no_pend = confs_no_pend n rs rest (cached_no_pend h.its s.shards h.cached (base_held h) (base_no_pend h.its t h.memory))
+  before_pends : AreBeforePends read
+  before_pends = confs_before_pends n rs rest (cached_before_pends h.its s.shards h.cached (base_held h) (base_before_pends h.its t h.memory))
 
   rest_out : AreOut s rest
-  rest_out = cached_out s h.its h.cached (base_held h) has.whole (base_no_shard h.its h.its t h.memory) (base_out s h.its t h.memory has.its)
+  rest_out = cached_out s h.its h.cached (base_held h) has.whole (base_before_shards h.its h.its t h.memory) (base_out s h.its t h.memory has.its)
 
   read_out : AreOut s read
   read_out = record {
     stands = parts_stand conf_held conf conf_kind cs rest (HasLpisOfConf s.start.layout.shape) s h.needed.confs n has.confs rest_out.stands;
-    apart = parts_apart conf_held conf conf_kind cs rest n (λ k. no_conf (record { 0 = k })) rest_out.apart;
+    apart = parts_apart conf_held conf conf_kind cs rest n (λ k. before_confs (record { 0 = k })) rest_out.apart;
     out = parts_out conf_held conf conf_kind cs rest n rest_out.out;
   }
 
   pub all_out : AreOut s (all_held s h)
   all_out = record {
     stands = parts_stand pend_held pend pend_kind ps read (HasLpisOfPend s.start.layout.shape) s h.needed.pends n has.pends read_out.stands;
-    apart = parts_apart pend_held pend pend_kind ps read n (λ k. no_pend (record { 0 = k })) read_out.apart;
+    apart = parts_apart pend_held pend pend_kind ps read n (λ k. before_pends (record { 0 = k })) read_out.apart;
     out = parts_out pend_held pend pend_kind ps read n read_out.out;
   }
 

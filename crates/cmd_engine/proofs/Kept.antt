@@ -7,7 +7,7 @@ use Rattle.its_steps.specs.Parts.{Setup, vcpu_count}
 use Rattle.its_steps.specs.World.{View}
 use Rattle.owned_parts.specs.declared.redist_set.RedistSet.{RedistSet}
 use Rattle.owned_parts.specs.Owned.{translator_of}
-use Rattle.held_parts.specs.Shards.{HoldsNoShard}
+use Rattle.held_parts.specs.Shards.{AreBeforeShards}
 use Rattle.held_parts.specs.Redists.{AreNone, AreWanted, AreNoConfs, AreNoPends, AreNoRedists, HavePlaces, IsRedistIn}
 use Rattle.cmd_engine.specs.Cached.{cached_held, AreWhole}
 use Rattle.cmd_engine.specs.Hands.{Memory, redists_of, with_redists, base_held, HasRoom, HasInHand, IsBase, IsOwn, IsOfStep}
@@ -15,7 +15,7 @@ use Rattle.cmd_engine.specs.declared.cached.Cached.{Cached}
 use Rattle.cmd_engine.specs.declared.cached.Cached.TheVariants as cached
 use Rattle.cmd_engine.specs.declared.hands.Hands.{Hands}
 use Rattle.cmd_engine.proofs.Getting.{needed_in_hand}
-use Rattle.cmd_engine.proofs.Held.{none_held, bare_held, base_no_shard}
+use Rattle.cmd_engine.proofs.Held.{none_held, bare_held, base_before_shards}
 
 -- nothing was taken
 pub kept_in_hand : (s : Setup) (v x : View) (h : Hands) (c : Cached) → HasInHand s v h → h.cached ≡ c → x.held ≡ v.held → HasInHand s x (record h { cached = c })
@@ -38,9 +38,9 @@ own_held : (s : Setup) (v : View) (h : Hands) → HasInHand s v h → IsOwn h �
 own_held s v h has own nothing = has.held ∙ (bare_held (vcpu_count s) h.memory own (cached_held h.its s.shards h.cached (base_held h))
     ∙ ap (λ (k : Cached). cached_held h.its s.shards k (base_held h)) nothing)
 
-pub own_free : (s : Setup) (v : View) (h : Hands) → HasInHand s v h → IsOwn h → h.cached ≡ cached.Nothing → HoldsNoShard h.its v.held
-own_free s v h has own nothing = subst (HoldsNoShard h.its) (sym (own_held s v h has own nothing))
-    (base_no_shard h.its h.its (translator_of h.translator.value) h.memory)
+pub own_order : (s : Setup) (v : View) (h : Hands) → HasInHand s v h → IsOwn h → h.cached ≡ cached.Nothing → AreBeforeShards h.its v.held
+own_order s v h has own nothing = subst (AreBeforeShards h.its) (sym (own_held s v h has own nothing))
+    (base_before_shards h.its h.its (translator_of h.translator.value) h.memory)
 
 -- shards were taken to the translator's maps
 pub shards_in_hand : (s : Setup) (v x : View) (h : Hands) (c : Cached) → HasInHand s v h → IsOwn h → h.cached ≡ cached.Nothing

@@ -96,12 +96,14 @@ pub fn read_at<R: Wait, G: Gate>(
     ensures answer { AsksPart (view pass.old) (part.Maps its) (call.ReadReg its off size)
         reply.Value (view pass.new) result }
 {
+    let mut attempt = 0u8;
     for _ in rt.forever() {
+        attempt = attempt.saturating_add(1);
         match try_read_at(machine, pass, gate, its, off, size) {
             Attempt::Done(placed) => return Ok(placed),
             Attempt::Spent => return Err(Spent),
-            Attempt::Busy(_) => give_way(),
-            Attempt::Raced(_) => pause(),
+            Attempt::Busy(_) => give_way(attempt),
+            Attempt::Raced(_) => pause(attempt),
         }
     }
     unreachable!()

@@ -45,12 +45,14 @@ pub fn step_at<R: Wait, G: Gate>(
     ensures of { IsOf machine.now pass.new }
     ensures answer { Steps (view pass.old) its result (view pass.new) }
 {
+    let mut attempt = 0u8;
     for _ in rt.forever() {
+        attempt = attempt.saturating_add(1);
         match step_once(rt, machine, pass, gate, its) {
             Ok(placed) => return Ok(placed),
             Err(Missed::Spent) => return Err(NotMade::Spent),
             Err(Missed::NoMemory) => return Err(NotMade::NoMemory),
-            Err(Missed::Raced(_) | Missed::Late) => pause(),
+            Err(Missed::Raced(_) | Missed::Late) => pause(attempt),
         }
     }
     unreachable!()

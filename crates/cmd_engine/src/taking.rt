@@ -7,9 +7,10 @@ ghost use Rattle.its_steps.specs.Parts.{translator_count, vcpu_count};
 ghost use Rattle.owned_parts.specs.Owned.{translator_of};
 ghost use Rattle.its_turns.specs.Machines.{setup, view, IsOf};
 ghost use Rattle.its_turns.specs.Told.{HasStood};
-ghost use Rattle.held_parts.specs.Shards.{HoldsNoShard};
+ghost use Rattle.held_parts.specs.Shards.{AreBeforeShards};
 ghost use Rattle.held_parts.specs.Redists.{AreConfsOfSet, ArePendsOfSet};
-ghost use Rattle.held_parts.specs.Redists.{AreNoConfs, AreNoPends, HoldsNoConf, HoldsNoPend};
+ghost use Rattle.held_parts.specs.Redists.{AreNoConfs, AreNoPends};
+ghost use Rattle.held_parts.specs.Redists.{AreBeforeConfs, AreBeforePends};
 ghost use Rattle.held_parts.specs.Taking.{Goes, TakesOnly};
 ghost use Rattle.cmd_engine.specs.Cached.{ending_as, ending_by, cached_held, AreWhole, IsAny};
 ghost use Rattle.cmd_engine.specs.Hands.{HasInHand, HasNeeded, HavePlaces, IsBase};
@@ -77,7 +78,7 @@ fn take_redists<R: Wait>(
     requires of { IsOf machine.now pass.old }
     requires empty { AreNoConfs redists.old × AreNoPends redists.old }
     requires room { HavePlaces (setup machine.now) redists.old }
-    requires free { HoldsNoConf (view pass.old).held × HoldsNoPend (view pass.old).held }
+    requires order { AreBeforeConfs (view pass.old).held × AreBeforePends (view pass.old).held }
     ensures of { IsOf machine.now pass.new }
     ensures takes { (its : ℕ) → TakesOnly (IsOfStep its) (view pass.old) (view pass.new) }
     ensures held { (view pass.new).held
@@ -103,7 +104,7 @@ pub(crate) fn take_cached<R: Wait>(
 )
     requires of { IsOf machine.now pass.old }
     requires its { its < translator_count (setup machine.now) }
-    requires free { HoldsNoShard its (view pass.old).held }
+    requires order { AreBeforeShards its (view pass.old).held }
     requires nothing { cached.old ≡ shards.Nothing }
     ensures of { IsOf machine.now pass.new }
     ensures goes { Goes (IsOfTranslator its) (view pass.old) (view pass.new) }
@@ -134,7 +135,7 @@ fn take_pair<R: Wait>(
 )
     requires of { IsOf machine.now pass.old }
     requires its { its < translator_count (setup machine.now) }
-    requires free { HoldsNoShard its (view pass.old).held }
+    requires order { AreBeforeShards its (view pass.old).held }
     ensures of { IsOf machine.now pass.new }
     ensures goes { Goes (IsOfTranslator its) (view pass.old) (view pass.new) }
     ensures held { (view pass.new).held ≡ cached_held its (setup machine.now).shards cached.new
@@ -152,7 +153,7 @@ fn take_pair<R: Wait>(
 fn take_any<R: Wait>(rt: &R, machine: &Machine, pass: &mut Pass, its: u8, cached: &mut Cached)
     requires of { IsOf machine.now pass.old }
     requires its { its < translator_count (setup machine.now) }
-    requires free { HoldsNoShard its (view pass.old).held }
+    requires order { AreBeforeShards its (view pass.old).held }
     ensures of { IsOf machine.now pass.new }
     ensures goes { Goes (IsOfTranslator its) (view pass.old) (view pass.new) }
     ensures held { (view pass.new).held ≡ cached_held its (setup machine.now).shards cached.new

@@ -9,8 +9,8 @@ ghost use Rattle.its_turns.specs.Machines.{setup, view, IsOf};
 ghost use Rattle.its_turns.specs.Told.{HasStood};
 ghost use Rattle.held_parts.specs.Once.{TakesAtOnce, FindsBusy};
 ghost use Rattle.held_parts.specs.Redists.{AreNoRedists, AreRedistsOf};
-ghost use Rattle.held_parts.specs.Redists.{HoldsNoConf, HoldsNoPend, IsRedistIn};
-ghost use Rattle.held_parts.specs.Shards.{HoldsNoShard};
+ghost use Rattle.held_parts.specs.Redists.{AreBeforeConfs, AreBeforePends, IsRedistIn};
+ghost use Rattle.held_parts.specs.Shards.{AreBeforeShards};
 ghost use Rattle.cmd_engine.specs.Cached.{ending_as, ending_by};
 ghost use Rattle.cmd_engine.specs.Hands.{HasInHand, HasNeeded, IsBase, IsOfStep, IsSameButNeeded};
 ghost use Rattle.cmd_engine.specs.Hands.{redists_held, redists_of, with_redists};
@@ -80,8 +80,8 @@ fn once_parts(
     requires of { IsOf machine.now pass.old }
     requires some { is_some memory.old ≡ true }
     requires empty { AreNoRedists (setup machine.now) (redists_of memory.old) }
-    requires no_conf { HoldsNoConf (view pass.old).held }
-    requires no_pend { HoldsNoPend (view pass.old).held }
+    requires before_confs { AreBeforeConfs (view pass.old).held }
+    requires before_pends { AreBeforePends (view pass.old).held }
     ensures of { IsOf machine.now pass.new }
     ensures same { memory.new ≡ with_redists memory.old (redists_of memory.new) }
     ensures result { MatchResult result
@@ -113,7 +113,7 @@ pub(crate) fn once_cached(
 ) -> Result<(), Busy>
     requires of { IsOf machine.now pass.old }
     requires its { its < translator_count (setup machine.now) }
-    requires free { HoldsNoShard its (view pass.old).held }
+    requires order { AreBeforeShards its (view pass.old).held }
     requires nothing { cached.old ≡ shards.Nothing }
     ensures of { IsOf machine.now pass.new }
     ensures result { MatchResult result
@@ -139,7 +139,7 @@ fn once_pair(
 ) -> Result<(), Busy>
     requires of { IsOf machine.now pass.old }
     requires its { its < translator_count (setup machine.now) }
-    requires free { HoldsNoShard its (view pass.old).held }
+    requires order { AreBeforeShards its (view pass.old).held }
     requires nothing { cached.old ≡ shards.Nothing }
     ensures of { IsOf machine.now pass.new }
     ensures result { MatchResult result
@@ -161,7 +161,7 @@ fn once_pair(
 fn once_any(machine: &Machine, pass: &mut Pass, its: u8, cached: &mut Cached) -> Result<(), Busy>
     requires of { IsOf machine.now pass.old }
     requires its { its < translator_count (setup machine.now) }
-    requires free { HoldsNoShard its (view pass.old).held }
+    requires order { AreBeforeShards its (view pass.old).held }
     requires nothing { cached.old ≡ shards.Nothing }
     ensures of { IsOf machine.now pass.new }
     ensures result { MatchResult result

@@ -38,12 +38,14 @@ pub fn write_at<R: Wait, G: Gate>(
         (call.WriteReg its off size value) (λ _. reply.Ok) (view pass.new) result }
 {
     let write = RegWrite { off, size, value };
+    let mut attempt = 0u8;
     for _ in rt.forever() {
+        attempt = attempt.saturating_add(1);
         match write_once(rt, machine, pass, gate, its, write) {
             Ok(placed) => return Ok(placed),
             Err(Missed::Spent) => return Err(Spent),
             Err(Missed::NoMemory) => unreachable!(),
-            Err(Missed::Raced(_) | Missed::Late) => pause(),
+            Err(Missed::Raced(_) | Missed::Late) => pause(attempt),
         }
     }
     unreachable!()

@@ -138,12 +138,14 @@ pub fn send<R: Wait, G: Gate>(
     ensures of { IsOf machine.now pass.new }
     ensures answer { Signals (view pass.old) call.now message (view pass.new) result }
 {
+    let mut attempt = 0u8;
     for _ in rt.forever() {
+        attempt = attempt.saturating_add(1);
         match send_once(machine, pass, gate, call, message) {
             Attempt::Done(placed) => return Ok(placed),
             Attempt::Spent => return Err(Spent),
-            Attempt::Busy(_) => give_way(),
-            Attempt::Raced(_) => pause(),
+            Attempt::Busy(_) => give_way(attempt),
+            Attempt::Raced(_) => pause(attempt),
         }
     }
     unreachable!()

@@ -38,12 +38,14 @@ pub fn dma<R: Wait, G: Gate>(
     ensures answer { Dmas (view pass.old) (dma_of machine.now.desc req addr bytes.now)
         (route_of machine.now.desc req addr.0 bytes.now) (view pass.new) result }
 {
+    let mut attempt = 0u8;
     for _ in rt.forever() {
+        attempt = attempt.saturating_add(1);
         match try_dma(machine, pass, gate, req, addr, bytes) {
             Ok(Attempt::Done(placed)) => return Ok(placed),
             Ok(Attempt::Spent) => return Err(NotMade::Spent),
-            Ok(Attempt::Busy(_)) => give_way(),
-            Ok(Attempt::Raced(_)) => pause(),
+            Ok(Attempt::Busy(_)) => give_way(attempt),
+            Ok(Attempt::Raced(_)) => pause(attempt),
             Err(AllocError) => return Err(NotMade::NoMemory),
         }
     }

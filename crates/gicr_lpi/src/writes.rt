@@ -54,12 +54,14 @@ pub fn write_gicr<R: Wait, G: Gate>(
         size,
         value,
     };
+    let mut attempt = 0u8;
     for _ in rt.forever() {
+        attempt = attempt.saturating_add(1);
         match try_access(machine, pass, gate, access) {
             Ok(Attempt::Done(placed)) => return Ok(placed),
             Ok(Attempt::Spent) => return Err(NotMade::Spent),
-            Ok(Attempt::Busy(_)) => give_way(),
-            Ok(Attempt::Raced(_)) => pause(),
+            Ok(Attempt::Busy(_)) => give_way(attempt),
+            Ok(Attempt::Raced(_)) => pause(attempt),
             Err(AllocError) => return Err(NotMade::NoMemory),
         }
     }

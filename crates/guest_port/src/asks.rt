@@ -56,12 +56,14 @@ pub fn write<R: Wait, G: Gate>(
         result }
     ensures reply { IfOk result (λ placed. IsWriteReply placed.reply) }
 {
+    let mut attempt = 0u8;
     for _ in rt.forever() {
+        attempt = attempt.saturating_add(1);
         match try_write(machine, pass, gate, writer, addr, bytes) {
             Ok(Attempt::Done(placed)) => return Ok(placed),
             Ok(Attempt::Spent) => return Err(NotMade::Spent),
-            Ok(Attempt::Busy(_)) => give_way(),
-            Ok(Attempt::Raced(_)) => pause(),
+            Ok(Attempt::Busy(_)) => give_way(attempt),
+            Ok(Attempt::Raced(_)) => pause(attempt),
             Err(AllocError) => return Err(NotMade::NoMemory),
         }
     }
@@ -90,12 +92,14 @@ pub fn peek<R: Wait, G: Gate>(
     ensures answer { AsksPart (view pass.old) part.Mem (call.Peek addr count) (λ r. r)
         (view pass.new) result }
 {
+    let mut attempt = 0u8;
     for _ in rt.forever() {
+        attempt = attempt.saturating_add(1);
         match try_peek(machine, pass, gate, addr, count) {
             Attempt::Done(placed) => return Ok(placed),
             Attempt::Spent => return Err(Spent),
-            Attempt::Busy(_) => give_way(),
-            Attempt::Raced(_) => pause(),
+            Attempt::Busy(_) => give_way(attempt),
+            Attempt::Raced(_) => pause(attempt),
         }
     }
     unreachable!()
@@ -119,12 +123,14 @@ pub fn copy<R: Wait, G: Gate>(
     ensures answer { AsksPart (view pass.old) part.Mem call.Copy reply.Copied (view pass.new)
         result }
 {
+    let mut attempt = 0u8;
     for _ in rt.forever() {
+        attempt = attempt.saturating_add(1);
         match try_copy(machine, pass, gate) {
             Attempt::Done(placed) => return Ok(placed),
             Attempt::Spent => return Err(Spent),
-            Attempt::Busy(_) => give_way(),
-            Attempt::Raced(_) => pause(),
+            Attempt::Busy(_) => give_way(attempt),
+            Attempt::Raced(_) => pause(attempt),
         }
     }
     unreachable!()

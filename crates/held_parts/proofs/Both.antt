@@ -1,5 +1,5 @@
 -- Both parts of redistributors, the configurations first.
-use Rattle.std.proofs.Common.{ℕ, List, ◌∷◌, inl, inr}
+use Rattle.std.proofs.Common.{ℕ, List, ◌∷◌}
 use Rattle.its_types.specs.declared.machine.Part.{Part}
 use Rattle.its_types.specs.declared.machine.Part.TheVariants as part
 use Rattle.its_plain.specs.Parts.{conf}
@@ -8,9 +8,9 @@ use Rattle.owned_parts.specs.declared.redist_set.RedistSet.{RedistSet}
 use Rattle.its_steps.specs.Contents.{Content, Held}
 use Rattle.its_steps.specs.Parts.{Setup, vcpu_count}
 use Rattle.its_steps.specs.World.{out}
-use Rattle.held_parts.specs.Redists.{conf_held, confs_held, HoldsNoConf, HoldsNoPend, AreNoRedists, IsConfIn, IsPendIn, IsRedistIn}
+use Rattle.held_parts.specs.Redists.{conf_held, confs_held, AreBeforeConfs, AreBeforePends, AreNoRedists, IsConfIn, IsPendIn, IsRedistIn}
 use Rattle.held_parts.specs.Wholes.{IsNoShard}
-use Rattle.held_parts.proofs.RedistRows.{conf_kind, parts_lack}
+use Rattle.held_parts.proofs.RedistRows.{conf_kind, parts_before}
 
 pub conf_of_both : (confs pends : RedistSet) (p : Part) → IsConfIn confs p → IsRedistIn confs pends p
 conf_of_both confs pends (part.Conf v) is = is
@@ -33,18 +33,16 @@ both_no_shard confs pends (part.Maps i) is = absurd is
 both_no_shard confs pends part.Mem is = absurd is
 both_no_shard confs pends (part.Shard i n) is = absurd is
 
--- a configuration isn't what is pending
-pub confs_no_pend : (n : ℕ) (redists : RedistParts) (others : List Held) → HoldsNoPend others → HoldsNoPend (confs_held redists n others)
-confs_no_pend n redists others lacks v = parts_lack conf_held conf conf_kind redists.confs others n (part.Pend v) (λ k e. cc) (lacks v)
+-- a configuration comes before what is pending
+pub confs_before_pends : (n : ℕ) (redists : RedistParts) (others : List Held) → AreBeforePends others → AreBeforePends (confs_held redists n others)
+confs_before_pends n redists others order v = parts_before conf_held conf conf_kind redists.confs others n (part.Pend v) (λ k lt. tt) (order v)
 
--- nor is guest memory a part of a redistributor
-pub mem_no_conf : (c : Content) (held : List Held) → HoldsNoConf held → HoldsNoConf (out part.Mem c ∷ held)
-mem_no_conf c held none v (inl e) = cc
-mem_no_conf c held none v (inr h) = none v h
+-- and guest memory before both
+pub mem_before_confs : (c : Content) (held : List Held) → AreBeforeConfs held → AreBeforeConfs (out part.Mem c ∷ held)
+mem_before_confs c held order v = (tt, order v)
 
-pub mem_no_pend : (c : Content) (held : List Held) → HoldsNoPend held → HoldsNoPend (out part.Mem c ∷ held)
-mem_no_pend c held none v (inl e) = cc
-mem_no_pend c held none v (inr h) = none v h
+pub mem_before_pends : (c : Content) (held : List Held) → AreBeforePends held → AreBeforePends (out part.Mem c ∷ held)
+mem_before_pends c held order v = (tt, order v)
 
 -- the places that memory comes with
 pub empty_places : (s : Setup) (redists : RedistParts) → AreEmpty (vcpu_count s) redists → AreNoRedists s redists

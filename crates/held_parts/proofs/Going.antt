@@ -6,13 +6,13 @@ use mathlib.Core.Option.{some}
 use Rattle.its_types.specs.declared.machine.Part.{Part}
 use Rattle.its_types.specs.declared.machine.Word.{Word}
 use Rattle.its_steps.specs.Contents.{Content, Held}
-use Rattle.its_steps.specs.Good.{Holds}
 use Rattle.its_steps.specs.Parts.{Setup}
 use Rattle.its_plain.specs.History.{after}
 use Rattle.its_steps.specs.MayCommit.{IsRight}
 use Rattle.its_steps.specs.World.{View, Tries, loaded, took, out, lost_to}
 use Rattle.its_steps.specs.declared.commit.Commit.{Commit}
 use Rattle.its_turns.specs.Calls.{Stays, IsPlaced, GotOnly, GoesOn, HasLooked, Makes, IsLost, IsMade}
+use Rattle.its_turns.specs.Order.{IsInOrder}
 use Rattle.its_turns.specs.Steps.{IsBusy, Takes}
 use Rattle.its_turns.specs.Told.{Looks, IsLone, HasStood}
 use Rattle.its_turns.specs.declared.turns.Busy.{Busy}
@@ -38,8 +38,8 @@ waits_more v w x p b before busy = subst (Waits v) (sym busy.view)
       alone = λ lone. absurd (busy.out (subst IsLone (sym (before.alone lone)) lone));
     }
 
-pub waits_free : (v w : View) (p : Part) → Waits v w → (Holds p v.held → ⊥) → Holds p w.held → ⊥
-waits_free v w p waits free holds = free (subst (Holds p) (ap (λ (y : View). y.held) waits.same) holds)
+pub waits_in_order : (v w : View) (p : Part) → Waits v w → IsInOrder p v.held → IsInOrder p w.held
+waits_in_order v w p waits order = subst (IsInOrder p) (sym (ap (λ (y : View). y.held) waits.same)) order
 
 module _ (v w x : View) (p : Part) (y : Value) (waits : Waits v w) (takes : Takes w p y x) where
   same_setup : w.setup ≡ v.setup

@@ -5,14 +5,14 @@ use Rattle.std.proofs.lemmas.Bool.{cases_eq, cases_lt, le-ltb, lt-ltb, and_from}
 use Rattle.std.specs.Prelude.{is_some}
 use Rattle.its_types.specs.declared.machine.Part.{Part}
 use Rattle.its_steps.specs.Contents.{Held}
-use Rattle.its_steps.specs.Good.{Holds}
 use Rattle.its_steps.specs.Parts.{Setup, vcpu_count}
 use Rattle.owned_parts.specs.RedistSets.{is_in, HasNone}
 use Rattle.owned_parts.specs.declared.redist_set.RedistSet.{RedistSet}
 use Rattle.held_parts.specs.Rows.{in_row}
 use Rattle.held_parts.specs.Redists.{at_place, held_if_in, row_of, AreNone, AreWanted}
 use Rattle.held_parts.proofs.InRows.{row_agrees, row_none, row_first, row_short}
-use Rattle.held_parts.proofs.RedistRows.{IsKind, part_above}
+use Rattle.its_turns.specs.Order.{IsInOrder}
+use Rattle.held_parts.proofs.RedistRows.{IsKind, parts_before}
 
 and_left : (a b : Bool) → a ≡ false → (a && b) ≡ false
 and_left a b e = ap (λ (x : Bool). x && b) e
@@ -46,8 +46,10 @@ module _ {T : Type 0} (as_held : ℕ → T → Held) (has_lpis : T → Type 0) (
       no_some r e = cc
 
   module _ (n : ℕ) (places : List (Option T)) (before now : List Held) (h : AreTaken n places before now) where
-    pub is_free : (part_at : ℕ → Part) → IsKind T as_held part_at → (k : ℕ) → n ≤ k → ¬ Holds (part_at k) before → Holds (part_at k) now → ⊥
-    is_free part_at kind k le lacks holds = part_above as_held part_at kind places before n k le lacks (subst (Holds (part_at k)) h.held holds)
+    -- one of n on comes after them
+    pub comes_next : (part_at : ℕ → Part) → IsKind T as_held part_at → (k : ℕ) → n ≤ k → IsInOrder (part_at k) before → IsInOrder (part_at k) now
+    comes_next part_at kind k le order = subst (IsInOrder (part_at k)) (sym h.held)
+        (parts_before as_held part_at kind places before n (part_at k) (λ j lt. kind.rises j k (omega (arith, lt, le))) order)
 
     -- none from n on and below another number is wanted
     pub not_taken : (end : ℕ) → n ≤ end → HasNone wanted n end → AreTaken end places before now

@@ -18,11 +18,13 @@ use Rattle.its_steps.specs.Parts.{Setup, Stands, vcpu_count}
 use Rattle.its_steps.specs.Renewal.{renewed, content_in}
 use Rattle.its_steps.specs.declared.commit.Commit.{Commit}
 use Rattle.its_steps.proofs.Owed.{owes_holds}
+use Rattle.its_turns.specs.Order.{ComesBefore, IsInOrder}
+use Rattle.its_turns.proofs.Ordering.{in_order_free}
 use Rattle.owned_parts.specs.RedistSets.{is_in}
 use Rattle.owned_parts.specs.declared.redist_set.RedistSet.{RedistSet}
 use Rattle.held_parts.specs.Rows.{in_row}
 use Rattle.held_parts.specs.Redists.{at_place, held_if_in, row_of, conf_held, pend_held, AreWanted}
-use Rattle.held_parts.proofs.InRows.{row_holds, row_owes, row_has, row_lacks, row_all, row_apart, row_renewed}
+use Rattle.held_parts.proofs.InRows.{row_holds, row_owes, row_has, row_all, row_apart, row_renewed}
 
 -- each is out of its slot, has a part of its own, and stands where there is such a processor
 pub record IsKind (T : Type 0) (as_held : ℕ → T → Held) (part_at : ℕ → Part) : Type 0 where
@@ -30,6 +32,7 @@ pub record IsKind (T : Type 0) (as_held : ℕ → T → Held) (part_at : ℕ →
   pub is_out : (k : ℕ) (x : T) → IsOut (as_held k x)
   pub differ : (j k : ℕ) → part_at j ≡ part_at k → j ≡ k
   pub stands : (s : Setup) (k : ℕ) → k < vcpu_count s → Stands s (part_at k)
+  pub rises : (j k : ℕ) → j < k → ComesBefore (part_at j) (part_at k)
 
 number_of : Part → ℕ
 number_of (part.Conf v) = v.0
@@ -40,11 +43,11 @@ number_of (part.Shard i n) = 0
 
 pub conf_kind : IsKind ConfInHand conf_held conf
 unfolding number_of
-conf_kind = record { part_is = λ k x. refl; is_out = λ k x. refl; differ = λ j k e. ap number_of e; stands = λ s k lt. lt }
+conf_kind = record { part_is = λ k x. refl; is_out = λ k x. refl; differ = λ j k e. ap number_of e; stands = λ s k lt. lt; rises = λ j k lt. lt }
 
 pub pend_kind : IsKind PendInHand pend_held pend
 unfolding number_of
-pend_kind = record { part_is = λ k x. refl; is_out = λ k x. refl; differ = λ j k e. ap number_of e; stands = λ s k lt. lt }
+pend_kind = record { part_is = λ k x. refl; is_out = λ k x. refl; differ = λ j k e. ap number_of e; stands = λ s k lt. lt; rises = λ j k lt. lt }
 
 module _ {T : Type 0} (as_held : ℕ → T → Held) where
   -- ---- what stands in the row
@@ -101,25 +104,19 @@ module _ {T : Type 0} (as_held : ℕ → T → Held) where
       pub part_holds : (n k : ℕ) → k < n → is_some (at_place places k) ≡ true → Holds (part_at k) (all n)
       part_holds n k lt some = some_held n k (at_place places k) refl lt some
 
-      -- a part of another kind is held only where the others have it
-      pub parts_lack : (n : ℕ) (p : Part) → ((k : ℕ) → part_at k ≢ p) → (Holds p others → ⊥) → Holds p (all n) → ⊥
-      parts_lack n p other lacks h = row_lacks (row_of as_held places) others n p (λ k x lt is e. other k
-          (sym (own_part places k x (in_row_is places k x is)) ∙ e)) lacks h
-
-      -- nor is one of n on
-      pub part_above : (n k : ℕ) → n ≤ k → (Holds (part_at k) others → ⊥) → Holds (part_at k) (all n) → ⊥
-      part_above n k le lacks h = row_lacks (row_of as_held places) others n (part_at k) (λ j x lt is e.
-          let same : j ≡ k = kind.differ j k (sym (own_part places j x (in_row_is places j x is)) ∙ e) in
-          omega (arith, le, lt, same)) lacks h
+      -- all come before a part, where those below n do, and the others
+      pub parts_before : (n : ℕ) (p : Part) → ((k : ℕ) → k < n → ComesBefore (part_at k) p) → IsInOrder p others → IsInOrder p (all n)
+      parts_before n p before order = row_all (row_of as_held places) others (λ x. ComesBefore x.part p) n (λ k x lt is.
+          subst (λ (q : Part). ComesBefore q p) (sym (own_part places k x (in_row_is places k x is))) (before k lt)) order
 
       pub parts_out : (n : ℕ) → AllByRecursion IsOut others → AllByRecursion IsOut (all n)
       parts_out n each = row_all (row_of as_held places) others IsOut n
           (λ k x lt is. let i = in_row_is places k x is in subst IsOut i.is (kind.is_out k i.one)) each
 
-      pub parts_apart : (n : ℕ) → ((k : ℕ) → ¬ Holds (part_at k) others) → Apart others → Apart (all n)
-      parts_apart n lacks apart =
+      pub parts_apart : (n : ℕ) → ((k : ℕ) → IsInOrder (part_at k) others) → Apart others → Apart (all n)
+      parts_apart n order apart =
           row_apart (row_of as_held places) others n (differ places) (λ k x is holds.
-          lacks k (subst (λ (p : Part). Holds p others) (own_part places k x (in_row_is places k x is)) holds)) apart
+          in_order_free (part_at k) others (order k) (subst (λ (p : Part). Holds p others) (own_part places k x (in_row_is places k x is)) holds)) apart
 
       pub parts_stand : (has_lpis : T → Type 0) (s : Setup) (set : RedistSet) (n : ℕ) → AreWanted T has_lpis s set places
           → AllByRecursion (λ x. Stands s x.part) others → AllByRecursion (λ x. Stands s x.part) (all n)

@@ -5,10 +5,10 @@ use Rattle.std.proofs.lemmas.Bool.{cases_eq, cases_lt, le-ltb, lt-ltb}
 use Rattle.std.specs.Prelude.{is_some}
 use Rattle.its_types.specs.declared.machine.Part.TheVariants as part
 use Rattle.its_steps.specs.Contents.{Held}
-use Rattle.its_steps.specs.Good.{Holds}
-use Rattle.held_parts.specs.Shards.{Ways, in_place, shard_held, held_if_in, shard_row, shards_held, AreNoShards, AreShards, HoldsNoShard}
+use Rattle.its_turns.specs.Order.{IsInOrder}
+use Rattle.held_parts.specs.Shards.{Ways, in_place, shard_held, held_if_in, shard_row, shards_held, AreNoShards, AreShards, AreBeforeShards}
 use Rattle.held_parts.proofs.InRows.{row_agrees, row_none, row_first}
-use Rattle.held_parts.proofs.ShardRows.{shard_above}
+use Rattle.held_parts.proofs.ShardRows.{shards_before}
 
 -- the first n are in hand, taken since some parts were held
 pub record AreTaken (its n : ℕ) (shards : List (Option Ways)) (before now : List Held) : Type 0 where
@@ -27,8 +27,10 @@ none_taken its shards xs none = record {
 }
 
 module _ (its n m : ℕ) (shards : List (Option Ways)) (before now : List Held) (h : AreTaken its n shards before now) (next : m ≡ suc n) where
-  pub is_free : HoldsNoShard its before → Holds (part.Shard its n) now → ⊥
-  is_free lacks holds = shard_above its shards before n n (omega arith) (lacks n) (subst (Holds (part.Shard its n)) h.held holds)
+  -- the next one comes after them
+  pub comes_next : AreBeforeShards its before → IsInOrder (part.Shard its n) now
+  comes_next order = subst (IsInOrder (part.Shard its n)) (sym h.held)
+      (shards_before its shards before n (part.Shard its n) (λ k lt. inr (refl, lt)) (order n))
 
   module _ (ways : Ways) (now' : List Held) (size : length shards ≡ 64) (lt : n < 64) (more : now' ≡ shard_held its n ways ∷ now) where
     abbrev then : List (Option Ways)

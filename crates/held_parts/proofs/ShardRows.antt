@@ -17,8 +17,10 @@ use Rattle.its_steps.specs.World.{word_after}
 use Rattle.its_steps.specs.declared.change.ShardChange.TheVariants.{Keep, Empty}
 use Rattle.its_steps.specs.declared.commit.Commit.{Commit}
 use Rattle.its_steps.proofs.Owed.{owes_holds}
-use Rattle.held_parts.specs.Shards.{Ways, in_place, shard_held, held_if_in, shard_row, shards_held, emptied, AreShards, AreEmptied, HoldsNoShard}
-use Rattle.held_parts.proofs.InRows.{row_holds, row_owes, row_has, row_lacks, row_all, row_apart, row_each, row_renewed}
+use Rattle.its_turns.specs.Order.{ComesBefore, IsInOrder}
+use Rattle.its_turns.proofs.Ordering.{in_order_free}
+use Rattle.held_parts.specs.Shards.{Ways, in_place, shard_held, held_if_in, shard_row, shards_held, emptied, AreShards, AreEmptied, AreBeforeShards}
+use Rattle.held_parts.proofs.InRows.{row_holds, row_owes, row_has, row_all, row_apart, row_each, row_renewed}
 
 -- ---- what stands in the row
 
@@ -76,25 +78,17 @@ module _ (its : ℕ) (shards : List (Option Ways)) (others : List Held) where
   pub all_hold : (n : ℕ) → AreShards n shards → (k : ℕ) → k < n → Holds (part.Shard its k) (shards_held its shards n others)
   all_hold n are k lt = shard_holds n k lt (are k ∙ lt-ltb k n lt)
 
-  -- a part that is no shard is held only where the others have it
-  pub shards_lack : (n : ℕ) (p : Part) → ((k : ℕ) → part.Shard its k ≢ p) → (Holds p others → ⊥) → Holds p (shards_held its shards n others) → ⊥
-  shards_lack n p other lacks h = row_lacks (shard_row its shards) others n p (λ k x lt is e. let i = in_row_is its shards k x is in other k
-      (ap (λ (y : Held). y.part) i.is ∙ e)) lacks h
-
-  -- nor is one of n on
-  pub shard_above : (n k : ℕ) → n ≤ k → (Holds (part.Shard its k) others → ⊥) → Holds (part.Shard its k) (shards_held its shards n others) → ⊥
-  unfolding number_of
-  shard_above n k le lacks h = row_lacks (shard_row its shards) others n (part.Shard its k) (λ j x lt is e.
-      let i = in_row_is its shards j x is in
-      let same : j ≡ k = ap (λ (y : Held). number_of y.part) i.is ∙ ap number_of e in
-      omega (arith, le, lt, same)) lacks h
+  -- all come before a part, where the first n do, and the others
+  pub shards_before : (n : ℕ) (p : Part) → ((k : ℕ) → k < n → ComesBefore (part.Shard its k) p) → IsInOrder p others → IsInOrder p (shards_held its shards n others)
+  shards_before n p before order = row_all (shard_row its shards) others (λ x. ComesBefore x.part p) n (λ k x lt is.
+      let i = in_row_is its shards k x is in subst (λ (y : Held). ComesBefore y.part p) i.is (before k lt)) order
 
   pub shards_out : (n : ℕ) → AllByRecursion IsOut others → AllByRecursion IsOut (shards_held its shards n others)
   shards_out n all = row_all (shard_row its shards) others IsOut n (λ k x lt is. let i = in_row_is its shards k x is in ap (λ (y : Held). y.out) (sym i.is)) all
 
-  pub shards_apart : (n : ℕ) → HoldsNoShard its others → Apart others → Apart (shards_held its shards n others)
-  shards_apart n lacks apart = row_apart (shard_row its shards) others n (differ its shards) (λ k x is holds. let i = in_row_is its shards k x is in lacks k
-      (subst (λ (y : Held). Holds y.part others) (sym i.is) holds)) apart
+  pub shards_apart : (n : ℕ) → AreBeforeShards its others → Apart others → Apart (shards_held its shards n others)
+  shards_apart n order apart = row_apart (shard_row its shards) others n (differ its shards) (λ k x is holds. let i = in_row_is its shards k x is in
+      in_order_free (part.Shard its k) others (order k) (subst (λ (y : Held). Holds y.part others) (sym i.is) holds)) apart
 
   pub shards_stand : (s : Setup) (n : ℕ) → its < translator_count s → n ≤ s.shards → AllByRecursion (λ x. Stands s x.part) others
       → AllByRecursion (λ x. Stands s x.part) (shards_held its shards n others)

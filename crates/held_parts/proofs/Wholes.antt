@@ -30,19 +30,19 @@ use Rattle.owned_parts.specs.declared.redist_set.RedistSet.{RedistSet}
 use Rattle.owned_parts.specs.declared.parts.Translator.{Translator as InHand}
 use Rattle.its_steps.specs.Calls as calls
 use Rattle.its_steps.specs.Contents.{Content, Held, Mem, Conf, Pend}
-use Rattle.its_steps.specs.Good.{Holds}
 use Rattle.its_steps.specs.MayCommit.{IsRight}
 use Rattle.its_steps.specs.Parts.{Setup, HasStamps, IsOfMachine, translator_count, vcpu_count}
 use Rattle.its_steps.specs.World.{View, out, loaded}
+use Rattle.its_turns.specs.Order.{IsInOrder}
 use Rattle.its_turns.specs.Told.{IsLone, Looks, IsLastOrLater}
-use Rattle.held_parts.specs.Redists.{at_place, held_if_in, row_of, AreWanted, conf_held, confs_held, HoldsNoConf, IsConfIn}
-use Rattle.held_parts.specs.Redists.{pend_held, pends_held, HoldsNoPend, IsPendIn}
+use Rattle.held_parts.specs.Redists.{at_place, held_if_in, row_of, AreWanted, conf_held, confs_held, AreBeforeConfs, IsConfIn}
+use Rattle.held_parts.specs.Redists.{pend_held, pends_held, AreBeforePends, IsPendIn}
 use Rattle.held_parts.specs.Taking.{LostNone, TakesOnly}
 use Rattle.held_parts.specs.Wholes.{second_of, translators_in, redists_in, state_of_whole, IsWholeOf, maps_held, second_held, held_whole, IsNoShard, TakesWhole}
 use Rattle.held_parts.specs.declared.whole.Whole.{Whole}
 use Rattle.held_parts.proofs.Going.{got_none}
 use Rattle.held_parts.proofs.InRows.{row_each, row_first, row_none}
-use Rattle.held_parts.proofs.RedistRows.{conf_kind, parts_lack}
+use Rattle.held_parts.proofs.RedistRows.{conf_kind, parts_before}
 use Rattle.held_parts.proofs.Lists.{same_lists, one_is, two_are, got_at}
 
 -- ---- all redistributors in hand
@@ -226,53 +226,35 @@ module _ (s : Setup) (x : Whole) (confs : AllConfs s (redists_in x)) (pends : Al
 
 -- ---- a pass that took all of them
 
-pub bare_free : (p : Part) (held : List Held) → held ≡ [] → ¬ Holds p held
-bare_free p held e = subst (λ (h : List Held). ¬ Holds p h) (sym e) (λ no. no)
+pub first_order : (t : InHand) (held : List Held) → held ≡ maps_held 0 t ∷ [] → IsInOrder (part.Maps 1) held
+first_order t held e = subst (IsInOrder (part.Maps 1)) (sym e) (omega arith, tt)
 
-pub first_free : (t : InHand) (held : List Held) → held ≡ maps_held 0 t ∷ [] → ¬ Holds (part.Maps 1) held
-first_free t held e = subst (λ (h : List Held). ¬ Holds (part.Maps 1) h) (sym e) (λ h. no h)
-  where
-    no : Holds (part.Maps 1) (maps_held 0 t ∷ []) → ⊥
-    no (inl e) = cc
-    no (inr h) = h
+maps_order : (o : Option InHand) (first : InHand) → IsInOrder part.Mem (second_held o (maps_held 0 first ∷ []))
+maps_order None first = (tt, tt)
+maps_order (Some t) first = (tt, (tt, tt))
 
-maps_free : (o : Option InHand) (first : InHand) → ¬ Holds part.Mem (second_held o (maps_held 0 first ∷ []))
-maps_free None first (inl e) = cc
-maps_free None first (inr h) = h
-maps_free (Some t) first (inl e) = cc
-maps_free (Some t) first (inr (inl e)) = cc
-maps_free (Some t) first (inr (inr h)) = h
+pub memory_order : (o : Option InHand) (first : InHand) (held : List Held) → held ≡ second_held o (maps_held 0 first ∷ []) → IsInOrder part.Mem held
+memory_order o first held e = subst (IsInOrder part.Mem) (sym e) (maps_order o first)
 
-pub memory_free : (o : Option InHand) (first : InHand) (held : List Held) → held ≡ second_held o (maps_held 0 first ∷ []) → ¬ Holds part.Mem held
-memory_free o first held e = subst (λ (h : List Held). ¬ Holds part.Mem h) (sym e) (maps_free o first)
+-- maps and memory come before parts of redistributors
+before_confs : (o : Option InHand) (first : InHand) (c : Content) → AreBeforeConfs (out part.Mem c ∷ second_held o (maps_held 0 first ∷ []))
+before_confs None first c vcpu = (tt, (tt, tt))
+before_confs (Some t) first c vcpu = (tt, (tt, (tt, tt)))
 
--- neither maps nor memory are of a redistributor
-no_conf : (o : Option InHand) (first : InHand) (c : Content) → HoldsNoConf (out part.Mem c ∷ second_held o (maps_held 0 first ∷ []))
-no_conf o first c vcpu (inl e) = cc
-no_conf None first c vcpu (inr (inl e)) = cc
-no_conf None first c vcpu (inr (inr h)) = h
-no_conf (Some t) first c vcpu (inr (inl e)) = cc
-no_conf (Some t) first c vcpu (inr (inr (inl e))) = cc
-no_conf (Some t) first c vcpu (inr (inr (inr h))) = h
+before_pends : (o : Option InHand) (first : InHand) (c : Content) → AreBeforePends (out part.Mem c ∷ second_held o (maps_held 0 first ∷ []))
+before_pends None first c vcpu = (tt, (tt, tt))
+before_pends (Some t) first c vcpu = (tt, (tt, (tt, tt)))
 
-no_pend : (o : Option InHand) (first : InHand) (c : Content) → HoldsNoPend (out part.Mem c ∷ second_held o (maps_held 0 first ∷ []))
-no_pend o first c vcpu (inl e) = cc
-no_pend None first c vcpu (inr (inl e)) = cc
-no_pend None first c vcpu (inr (inr h)) = h
-no_pend (Some t) first c vcpu (inr (inl e)) = cc
-no_pend (Some t) first c vcpu (inr (inr (inl e))) = cc
-no_pend (Some t) first c vcpu (inr (inr (inr h))) = h
+pub confs_order : (o : Option InHand) (first : InHand) (c : Content) (held : List Held) → held ≡ out part.Mem c ∷ second_held o (maps_held 0 first ∷ [])
+    → AreBeforeConfs held
+confs_order o first c held e = subst AreBeforeConfs (sym e) (before_confs o first c)
 
-pub confs_free : (o : Option InHand) (first : InHand) (c : Content) (held : List Held) → held ≡ out part.Mem c ∷ second_held o (maps_held 0 first ∷ [])
-    → HoldsNoConf held
-confs_free o first c held e = subst HoldsNoConf (sym e) (no_conf o first c)
-
--- nor is a configuration what is pending
-pub pends_free : (o : Option InHand) (first : InHand) (c : Content) (redists : RedistParts) (n : ℕ) (before held : List Held)
-    → before ≡ out part.Mem c ∷ second_held o (maps_held 0 first ∷ []) → held ≡ confs_held redists n before → HoldsNoPend held
-pends_free o first c redists n before held e f =
-    let none : HoldsNoPend before = subst HoldsNoPend (sym e) (no_pend o first c) in
-    subst HoldsNoPend (sym f) (λ vcpu. parts_lack conf_held conf conf_kind redists.confs before n (part.Pend vcpu) (λ k e. cc) (none vcpu))
+-- and configurations before what is pending
+pub pends_order : (o : Option InHand) (first : InHand) (c : Content) (redists : RedistParts) (n : ℕ) (before held : List Held)
+    → before ≡ out part.Mem c ∷ second_held o (maps_held 0 first ∷ []) → held ≡ confs_held redists n before → AreBeforePends held
+pends_order o first c redists n before held e f =
+    let order : AreBeforePends before = subst AreBeforePends (sym e) (before_pends o first c) in
+    subst AreBeforePends (sym f) (λ vcpu. parts_before conf_held conf conf_kind redists.confs before n (part.Pend vcpu) (λ k lt. tt) (order vcpu))
 
 pub conf_no_shard : (set : RedistSet) (p : Part) → IsConfIn set p → IsNoShard p
 conf_no_shard set (part.Conf v) is = tt

@@ -11,9 +11,9 @@ use Rattle.owned_parts.specs.RedistSets.{is_in}
 use Rattle.owned_parts.specs.declared.redist_set.RedistSet.{RedistSet}
 use Rattle.its_plain.specs.Parts.{conf, pend}
 use Rattle.its_steps.specs.Contents.{Held, Conf, Pend}
-use Rattle.its_steps.specs.Good.{Holds}
 use Rattle.its_steps.specs.Parts.{Setup, vcpu_count}
 use Rattle.its_steps.specs.World.{out}
+use Rattle.its_turns.specs.Order.{IsInOrder}
 use Rattle.held_parts.specs.Rows.{Row, in_row}
 
 -- ---- of one kind: `as_held` says how the one of a virtual processor is held
@@ -61,9 +61,9 @@ AreConfsOfSet s set redists = AreWanted ConfInHand (HasLpisOfConf s.start.layout
 abbrev pub AreConfsBelow : Setup → ℕ → RedistSet → RedistParts → Type 0
 AreConfsBelow s n set redists = AreBelow ConfInHand (HasLpisOfConf s.start.layout.shape) n set redists.confs
 
--- none is held
-abbrev pub HoldsNoConf : List Held → Type 0
-HoldsNoConf held = (vcpu : Vcpu) → ¬ Holds (part.Conf vcpu) held
+-- all that is held comes before them
+abbrev pub AreBeforeConfs : List Held → Type 0
+AreBeforeConfs held = (vcpu : Vcpu) → IsInOrder (part.Conf vcpu) held
 
 -- the part is the configuration of one of the set
 abbrev pub IsConfIn : RedistSet → Part → Type 0
@@ -87,8 +87,8 @@ ArePendsOfSet s set redists = AreWanted PendInHand (HasLpisOfPend s.start.layout
 abbrev pub ArePendsBelow : Setup → ℕ → RedistSet → RedistParts → Type 0
 ArePendsBelow s n set redists = AreBelow PendInHand (HasLpisOfPend s.start.layout.shape) n set redists.pends
 
-abbrev pub HoldsNoPend : List Held → Type 0
-HoldsNoPend held = (vcpu : Vcpu) → ¬ Holds (part.Pend vcpu) held
+abbrev pub AreBeforePends : List Held → Type 0
+AreBeforePends held = (vcpu : Vcpu) → IsInOrder (part.Pend vcpu) held
 
 abbrev pub IsPendIn : RedistSet → Part → Type 0
 IsPendIn set (part.Pend vcpu) = is_in set vcpu.0 ≡ true

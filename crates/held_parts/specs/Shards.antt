@@ -5,8 +5,8 @@ use Rattle.its_types.specs.declared.machine.Part.TheVariants as part
 use Rattle.xlate_cache.specs.Ways.{no_entries}
 use Rattle.xlate_cache.specs.declared.entry.Entry.{Entry as Translation}
 use Rattle.its_steps.specs.Contents.{Held, Shard}
-use Rattle.its_steps.specs.Good.{Holds}
 use Rattle.its_steps.specs.World.{out}
+use Rattle.its_turns.specs.Order.{IsInOrder}
 use Rattle.held_parts.specs.Rows.{Row, in_row}
 
 abbrev pub Ways : Type 0
@@ -40,9 +40,9 @@ AreNoShards shards = (number : ℕ) → in_place shards number ≡ None
 abbrev pub AreShards : ℕ → List (Option Ways) → Type 0
 AreShards n shards = (number : ℕ) → is_some (in_place shards number) ≡ nat_lt number n
 
--- none of the translator's is held
-abbrev pub HoldsNoShard : ℕ → List Held → Type 0
-HoldsNoShard its held = (number : ℕ) → ¬ Holds (part.Shard its number) held
+-- all that is held comes before the translator's
+abbrev pub AreBeforeShards : ℕ → List Held → Type 0
+AreBeforeShards its held = (number : ℕ) → IsInOrder (part.Shard its number) held
 
 abbrev pub emptied : Option Ways → Option Ways
 emptied None = None

@@ -5,7 +5,7 @@ ghost use Rattle.its_steps.specs.Parts.{vcpu_count};
 ghost use Rattle.its_turns.specs.Machines.{setup, view, IsOf};
 ghost use Rattle.held_parts.specs.Redists.{confs_held, AreNoConfs, AreConfsOfSet};
 ghost use Rattle.held_parts.specs.Redists.{AreConfsBelow};
-ghost use Rattle.held_parts.specs.Redists.{HoldsNoConf, IsConfIn};
+ghost use Rattle.held_parts.specs.Redists.{AreBeforeConfs, IsConfIn};
 ghost use Rattle.held_parts.specs.Taking.{TakesOnly, holding};
 
 use crate::getting::take_conf;
@@ -27,7 +27,7 @@ pub fn take_confs<T: Turns>(
     requires of { IsOf machine.now pass.old }
     requires empty { AreNoConfs redists.old }
     requires room { length redists.old.confs ≡ vcpu_count (setup machine.now) }
-    requires free { HoldsNoConf (view pass.old).held }
+    requires order { AreBeforeConfs (view pass.old).held }
     requires allowed { T.allowed (view pass.old) }
     ensures of { IsOf machine.now pass.new }
     ensures takes { TakesOnly (IsConfIn set) (view pass.old) (view pass.new) }

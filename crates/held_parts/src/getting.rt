@@ -4,10 +4,10 @@ ghost use Rattle.its_types.specs.declared.machine.Part.TheVariants as part;
 ghost use Rattle.lpi_config.specs.Conf.{conf_state};
 ghost use Rattle.lpi_pending.specs.InHand.{pend_state, AreEmpty, HasLpisOfConf, HasLpisOfPend};
 ghost use Rattle.owned_parts.specs.Owned.{translator_of};
-ghost use Rattle.its_steps.specs.Good.{Holds};
 ghost use Rattle.its_steps.specs.Parts.{Stands, translator_count, vcpu_count};
 ghost use Rattle.its_steps.specs.Contents as content;
 ghost use Rattle.its_turns.specs.Machines.{setup, view, IsOf};
+ghost use Rattle.its_turns.specs.Order.{IsInOrder};
 ghost use Rattle.held_parts.specs.Taking.{TakesInTime};
 
 use crate::turns::Turns;
@@ -22,7 +22,7 @@ use xlate_cache::Shard;
 pub fn take_maps<T: Turns>(how: &T, machine: &Machine, pass: &mut Pass, its: u8) -> Box<Translator>
     requires of { IsOf machine.now pass.old }
     requires stands { its < translator_count (setup machine.now) }
-    requires free { ¬ Holds (part.Maps its) (view pass.old).held }
+    requires order { IsInOrder (part.Maps its) (view pass.old).held }
     requires allowed { T.allowed (view pass.old) }
     ensures of { IsOf machine.now pass.new }
     ensures takes { TakesInTime (view pass.old) (part.Maps its)
@@ -38,7 +38,7 @@ pub fn take_maps<T: Turns>(how: &T, machine: &Machine, pass: &mut Pass, its: u8)
 /// Takes guest memory out, with empty places for redistributors.
 pub fn take_memory<T: Turns>(how: &T, machine: &Machine, pass: &mut Pass) -> Box<GuestMemory>
     requires of { IsOf machine.now pass.old }
-    requires free { ¬ Holds part.Mem (view pass.old).held }
+    requires order { IsInOrder part.Mem (view pass.old).held }
     requires allowed { T.allowed (view pass.old) }
     ensures of { IsOf machine.now pass.new }
     ensures takes { TakesInTime (view pass.old) part.Mem
@@ -62,7 +62,7 @@ pub fn take_shard<T: Turns>(
 ) -> Shard
     requires of { IsOf machine.now pass.old }
     requires stands { Stands (setup machine.now) (part.Shard its number) }
-    requires free { ¬ Holds (part.Shard its number) (view pass.old).held }
+    requires order { IsInOrder (part.Shard its number) (view pass.old).held }
     requires allowed { T.allowed (view pass.old) }
     ensures of { IsOf machine.now pass.new }
     ensures takes { TakesInTime (view pass.old) (part.Shard its number) (content.Shard result)
@@ -79,7 +79,7 @@ pub fn take_shard<T: Turns>(
 pub fn take_conf<T: Turns>(how: &T, machine: &Machine, pass: &mut Pass, vcpu: Vcpu) -> Box<Conf>
     requires of { IsOf machine.now pass.old }
     requires stands { vcpu.0 < vcpu_count (setup machine.now) }
-    requires free { ¬ Holds (part.Conf vcpu) (view pass.old).held }
+    requires order { IsInOrder (part.Conf vcpu) (view pass.old).held }
     requires allowed { T.allowed (view pass.old) }
     ensures of { IsOf machine.now pass.new }
     ensures takes { TakesInTime (view pass.old) (part.Conf vcpu)
@@ -97,7 +97,7 @@ pub fn take_conf<T: Turns>(how: &T, machine: &Machine, pass: &mut Pass, vcpu: Vc
 pub fn take_pend<T: Turns>(how: &T, machine: &Machine, pass: &mut Pass, vcpu: Vcpu) -> Box<Pend>
     requires of { IsOf machine.now pass.old }
     requires stands { vcpu.0 < vcpu_count (setup machine.now) }
-    requires free { ¬ Holds (part.Pend vcpu) (view pass.old).held }
+    requires order { IsInOrder (part.Pend vcpu) (view pass.old).held }
     requires allowed { T.allowed (view pass.old) }
     ensures of { IsOf machine.now pass.new }
     ensures takes { TakesInTime (view pass.old) (part.Pend vcpu)

@@ -5,7 +5,7 @@ ghost use Rattle.its_steps.specs.Parts.{vcpu_count};
 ghost use Rattle.its_turns.specs.Machines.{setup, view, IsOf};
 ghost use Rattle.held_parts.specs.Redists.{pends_held, AreNoPends, ArePendsOfSet};
 ghost use Rattle.held_parts.specs.Redists.{ArePendsBelow};
-ghost use Rattle.held_parts.specs.Redists.{HoldsNoPend, IsPendIn};
+ghost use Rattle.held_parts.specs.Redists.{AreBeforePends, IsPendIn};
 ghost use Rattle.held_parts.specs.Taking.{TakesOnly, holding};
 
 use crate::getting::take_pend;
@@ -27,7 +27,7 @@ pub fn take_pends<T: Turns>(
     requires of { IsOf machine.now pass.old }
     requires empty { AreNoPends redists.old }
     requires room { length redists.old.pends ≡ vcpu_count (setup machine.now) }
-    requires free { HoldsNoPend (view pass.old).held }
+    requires order { AreBeforePends (view pass.old).held }
     requires allowed { T.allowed (view pass.old) }
     ensures of { IsOf machine.now pass.new }
     ensures takes { TakesOnly (IsPendIn set) (view pass.old) (view pass.new) }

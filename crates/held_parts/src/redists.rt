@@ -6,7 +6,7 @@ ghost use Rattle.held_parts.specs.Once.{TakesAtOnce, FindsBusy};
 ghost use Rattle.held_parts.specs.Redists.{confs_held, AreNoConfs, AreConfsOfSet};
 ghost use Rattle.held_parts.specs.Redists.{pends_held, AreNoPends, ArePendsOfSet};
 ghost use Rattle.held_parts.specs.Redists.{redists_held, AreNoRedists, AreRedistsOf};
-ghost use Rattle.held_parts.specs.Redists.{HoldsNoConf, HoldsNoPend};
+ghost use Rattle.held_parts.specs.Redists.{AreBeforeConfs, AreBeforePends};
 ghost use Rattle.held_parts.specs.Redists.{IsConfIn, IsPendIn, IsRedistIn};
 
 use crate::confs::{put_confs, put_first_confs};
@@ -27,7 +27,7 @@ pub fn once_confs(
     requires of { IsOf machine.now pass.old }
     requires empty { AreNoConfs redists.old }
     requires room { length redists.old.confs ≡ vcpu_count (setup machine.now) }
-    requires free { HoldsNoConf (view pass.old).held }
+    requires order { AreBeforeConfs (view pass.old).held }
     ensures of { IsOf machine.now pass.new }
     ensures result { MatchResult result
         (λ _. TakesAtOnce (IsConfIn set) (view pass.old) (view pass.new) ×
@@ -65,7 +65,7 @@ pub fn once_pends(
     requires of { IsOf machine.now pass.old }
     requires empty { AreNoPends redists.old }
     requires room { length redists.old.pends ≡ vcpu_count (setup machine.now) }
-    requires free { HoldsNoPend (view pass.old).held }
+    requires order { AreBeforePends (view pass.old).held }
     ensures of { IsOf machine.now pass.new }
     ensures result { MatchResult result
         (λ _. TakesAtOnce (IsPendIn set) (view pass.old) (view pass.new) ×
@@ -103,8 +103,8 @@ pub fn once_redists(
 ) -> Result<(), Busy>
     requires of { IsOf machine.now pass.old }
     requires empty { AreNoRedists (setup machine.now) redists.old }
-    requires no_conf { HoldsNoConf (view pass.old).held }
-    requires no_pend { HoldsNoPend (view pass.old).held }
+    requires before_confs { AreBeforeConfs (view pass.old).held }
+    requires before_pends { AreBeforePends (view pass.old).held }
     ensures of { IsOf machine.now pass.new }
     ensures result { MatchResult result
         (λ _. TakesAtOnce (IsRedistIn confs pends) (view pass.old) (view pass.new) ×

@@ -3,7 +3,7 @@ ghost use Rattle.std.specs.Prelude.{◌≡◌, ◌<◌, ◌≤◌, ℕ, List, Ma
 ghost use Rattle.its_steps.specs.Contents.{Held};
 ghost use Rattle.its_steps.specs.Parts.{translator_count};
 ghost use Rattle.its_turns.specs.Machines.{setup, view, IsOf};
-ghost use Rattle.held_parts.specs.Shards.{shards_held, AreNoShards, AreShards, HoldsNoShard};
+ghost use Rattle.held_parts.specs.Shards.{shards_held, AreNoShards, AreShards, AreBeforeShards};
 ghost use Rattle.held_parts.specs.Shards.{IsShardOf};
 ghost use Rattle.held_parts.specs.Once.{TakesAtOnce, FindsBusy};
 ghost use Rattle.held_parts.specs.Taking.{TakesOnly, holding};
@@ -107,7 +107,7 @@ pub fn take_shards<T: Turns>(
     requires of { IsOf machine.now pass.old }
     requires stands { its < translator_count (setup machine.now) }
     requires empty { AreNoShards shards.old }
-    requires free { HoldsNoShard its (view pass.old).held }
+    requires order { AreBeforeShards its (view pass.old).held }
     requires allowed { T.allowed (view pass.old) }
     ensures of { IsOf machine.now pass.new }
     ensures takes { TakesOnly (IsShardOf its) (view pass.old) (view pass.new) }
@@ -133,7 +133,7 @@ pub fn once_shards(
     requires of { IsOf machine.now pass.old }
     requires stands { its < translator_count (setup machine.now) }
     requires empty { AreNoShards shards.old }
-    requires free { HoldsNoShard its (view pass.old).held }
+    requires order { AreBeforeShards its (view pass.old).held }
     ensures of { IsOf machine.now pass.new }
     ensures result { MatchResult result
         (λ _. TakesAtOnce (IsShardOf its) (view pass.old) (view pass.new) ×

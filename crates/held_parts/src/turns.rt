@@ -1,8 +1,8 @@
 //! How a pass gets the turn of a part: it waits, or it is the root at rest.
 ghost use Rattle.std.specs.Prelude.{◌≡◌};
-ghost use Rattle.its_steps.specs.Good.{Holds};
 ghost use Rattle.its_steps.specs.Parts.{Stands};
 ghost use Rattle.its_turns.specs.Machines.{setup, view, IsOf};
+ghost use Rattle.its_turns.specs.Order.{IsInOrder};
 ghost use Rattle.held_parts.specs.Taking.{TakesValue};
 
 use its_turns::{Machine, Pass, Value, give_way, try_take};
@@ -20,7 +20,7 @@ pub trait Turns {
     fn turn(&self, machine: &Machine, pass: &mut Pass, part: Part) -> Value
         requires of { IsOf machine.now pass.old }
         requires stands { Stands (setup machine.now) part }
-        requires free { ¬ Holds part (view pass.old).held }
+        requires order { IsInOrder part (view pass.old).held }
         requires allowed { allowed (view pass.old) }
         ensures of { IsOf machine.now pass.new }
         ensures takes { TakesValue (view pass.old) part result (view pass.new) }
@@ -59,7 +59,7 @@ impl<'a, R: Wait> Turns for Waiting<'a, R> {
         match try_take(machine, pass, part) {
             Ok(value) => value,
             Err(_) => {
-                give_way();
+                give_way(1);
                 wait_for(self.rt, machine, pass, part)
             }
         }
@@ -71,14 +71,16 @@ impl<'a, R: Wait> Turns for Waiting<'a, R> {
 fn wait_for<R: Wait>(rt: &R, machine: &Machine, pass: &mut Pass, part: Part) -> Value
     requires of { IsOf machine.now pass.old }
     requires stands { Stands (setup machine.now) part }
-    requires free { ¬ Holds part (view pass.old).held }
+    requires order { IsInOrder part (view pass.old).held }
     ensures of { IsOf machine.now pass.new }
     ensures takes { TakesValue (view pass.old) part result (view pass.new) }
 {
+    let mut attempt = 1u8;
     for _ in rt.forever() {
+        attempt = attempt.saturating_add(1);
         match try_take(machine, pass, part) {
             Ok(value) => return value,
-            Err(_) => give_way(),
+            Err(_) => give_way(attempt),
         }
     }
     unreachable!()

@@ -3,9 +3,9 @@ ghost use Rattle.std.specs.Prelude.{◌≡◌, ◌≤◌, [], List, ◌==◌, is
 ghost use Rattle.std.specs.Option.{option_map};
 ghost use Rattle.its_types.specs.declared.machine.Part.TheVariants as part;
 ghost use Rattle.its_steps.specs.Contents.{Held};
-ghost use Rattle.its_steps.specs.Good.{Holds};
 ghost use Rattle.its_steps.specs.Parts.{translator_count};
 ghost use Rattle.its_turns.specs.Machines.{setup, view, IsOf};
+ghost use Rattle.its_turns.specs.Order.{IsInOrder};
 ghost use Rattle.held_parts.specs.Taking.{TakesOnly, holding};
 ghost use Rattle.held_parts.specs.Wholes.{IsWholeOf, IsNoShard, TakesWhole};
 ghost use Rattle.held_parts.specs.Wholes.{held_whole, second_held};
@@ -86,7 +86,7 @@ pub fn take_whole<T: Turns, G: Gate>(how: &T, machine: &Machine, pass: &mut Pass
 
 fn take_second<T: Turns>(how: &T, machine: &Machine, pass: &mut Pass) -> Option<Box<Translator>>
     requires of { IsOf machine.now pass.old }
-    requires free { ¬ Holds (part.Maps 1) (view pass.old).held }
+    requires order { IsInOrder (part.Maps 1) (view pass.old).held }
     requires allowed { T.allowed (view pass.old) }
     ensures of { IsOf machine.now pass.new }
     ensures takes { TakesOnly IsNoShard (view pass.old) (view pass.new) }

@@ -3,12 +3,13 @@ ghost use Rattle.std.specs.Prelude.{◌≡◌, ◌∷◌, [], List, ◌==◌, is
 ghost use Rattle.std.specs.Option.{option_map};
 ghost use Rattle.its_types.specs.declared.machine.Part.TheVariants as part;
 ghost use Rattle.its_steps.specs.Contents.{Held, Mem};
-ghost use Rattle.its_steps.specs.Good.{Holds};
 ghost use Rattle.its_steps.specs.Parts.{translator_count, vcpu_count};
 ghost use Rattle.its_steps.specs.World.{out};
 ghost use Rattle.its_turns.specs.Machines.{setup, view, IsOf};
+ghost use Rattle.its_turns.specs.Order.{IsInOrder};
 ghost use Rattle.held_parts.specs.Once.{TakesAtOnce, FindsBusy};
-ghost use Rattle.held_parts.specs.Redists.{redists_held, AreRedistsOf, HoldsNoConf, HoldsNoPend};
+ghost use Rattle.held_parts.specs.Redists.{redists_held, AreRedistsOf};
+ghost use Rattle.held_parts.specs.Redists.{AreBeforeConfs, AreBeforePends};
 ghost use Rattle.held_parts.specs.Taking.{LostNone, holding};
 ghost use Rattle.held_parts.specs.Wholes.{IsNoShard, TakesWhole, maps_held, second_held};
 
@@ -82,7 +83,7 @@ fn once_maps(
 
 fn once_second(machine: &Machine, pass: &mut Pass) -> Result<Option<Box<Translator>>, Busy>
     requires of { IsOf machine.now pass.old }
-    requires free { ¬ Holds (part.Maps 1) (view pass.old).held }
+    requires order { IsInOrder (part.Maps 1) (view pass.old).held }
     ensures of { IsOf machine.now pass.new }
     ensures result { MatchResult result
         (λ x. TakesAtOnce IsNoShard (view pass.old) (view pass.new) × ((view pass.new).held
@@ -120,9 +121,9 @@ fn put_maps(
 // Memory, and in its places both parts of the redistributors of a set.
 fn once_memory(machine: &Machine, pass: &mut Pass, all: RedistSet) -> Result<Box<GuestMemory>, Busy>
     requires of { IsOf machine.now pass.old }
-    requires no_memory { ¬ Holds part.Mem (view pass.old).held }
-    requires no_conf { HoldsNoConf (view pass.old).held }
-    requires no_pend { HoldsNoPend (view pass.old).held }
+    requires order { IsInOrder part.Mem (view pass.old).held }
+    requires before_confs { AreBeforeConfs (view pass.old).held }
+    requires before_pends { AreBeforePends (view pass.old).held }
     ensures of { IsOf machine.now pass.new }
     ensures result { MatchResult result
         (λ x. TakesAtOnce IsNoShard (view pass.old) (view pass.new) × ((view pass.new).held

@@ -91,11 +91,13 @@ fn commit_save<R: Wait, G: Gate>(
     ensures of { IsOf machine.now pass.new }
     ensures result { Commits (view pass.old) reply.now result (view pass.new) }
 {
+    let mut attempt = 0u8;
     for _ in rt.forever() {
+        attempt = attempt.saturating_add(1);
         match try_commit(machine, pass, gate, &Call::Save, reply, ShardChange::Keep) {
             Ok(word) => return Ok(word),
             Err(Lost::Spent) => return Err(Spent),
-            Err(Lost::Raced(_)) => pause(),
+            Err(Lost::Raced(_)) => pause(attempt),
         }
     }
     unreachable!()

@@ -14,6 +14,7 @@ pub mod Going
 pub mod Again
 pub mod OnePart
 pub mod Telling
+pub mod Ordering
 pub mod Stamps
 pub mod Described
 pub mod Places

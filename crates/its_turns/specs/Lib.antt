@@ -1,4 +1,5 @@
 pub mod Contents
+pub mod Order
 pub mod Words
 pub mod Calls
 pub mod Opening

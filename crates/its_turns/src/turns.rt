@@ -2,12 +2,12 @@
 ghost use Rattle.std.specs.Prelude.{◌≡◌, ◌+◌, ◌*◌, ◌<◌, MatchResult};
 ghost use mathlib.Core.Option.{none};
 ghost use Rattle.atomic_table.specs.Table.{step};
-ghost use Rattle.its_steps.specs.Good.{Holds};
 ghost use Rattle.its_steps.specs.Parts.{Stands, index_of};
 ghost use Rattle.its_steps.specs.World.{View};
 ghost use Rattle.its_steps.specs.declared.standing.Standing.TheVariants as standing;
 ghost use Rattle.its_turns.specs.Contents.{IsFit};
 ghost use Rattle.its_turns.specs.Machines.{setup, view, IsOf};
+ghost use Rattle.its_turns.specs.Order.{IsInOrder};
 ghost use Rattle.its_turns.specs.Steps.{IsSameButLost, Takes, IsBusy, IsOwed};
 ghost use Rattle.its_turns.specs.Told.{trying, released};
 
@@ -57,11 +57,12 @@ fn try_turn<A: Chooses>(
         .compare_exchange::<Try<A>>(seat, 16 * (at + 1), 0, number)
 }
 
-/// Tries the turn of a part once, and takes its value out.
+/// Tries the turn of a part once, and takes its value out. All that the pass holds comes before the
+/// part.
 pub fn try_take(machine: &Machine, pass: &mut Pass, part: Part) -> Result<Value, Busy>
     requires of { IsOf machine.now pass.old }
     requires stands { Stands (setup machine.now) part }
-    requires free { ¬ Holds part (view pass.old).held }
+    requires order { IsInOrder part (view pass.old).held }
     ensures of { IsOf machine.now pass.new }
     ensures result { MatchResult result (λ x. Takes (view pass.old) part x (view pass.new)) (λ b.
         IsBusy (view pass.old) part b (view pass.new)) }
@@ -84,19 +85,22 @@ pub fn try_take(machine: &Machine, pass: &mut Pass, part: Part) -> Result<Value,
     )
 }
 
-/// Waits for the turn of a part, and takes its value out.
+/// Waits for the turn of a part, and takes its value out. All that the pass holds comes before the
+/// part.
 pub fn take<R: Wait>(rt: &R, machine: &Machine, pass: &mut Pass, part: Part) -> Value
     requires of { IsOf machine.now pass.old }
     requires stands { Stands (setup machine.now) part }
-    requires free { ¬ Holds part (view pass.old).held }
+    requires order { IsInOrder part (view pass.old).held }
     ensures of { IsOf machine.now pass.new }
     ensures takes { (w : View) × IsSameButLost (view pass.old) w
         × Takes w part result (view pass.new) }
 {
+    let mut attempt = 0u8;
     for _ in rt.forever() {
+        attempt = attempt.saturating_add(1);
         match try_take(machine, pass, part) {
             Ok(value) => return value,
-            Err(_) => give_way(),
+            Err(_) => give_way(attempt),
         }
     }
     unreachable!()

@@ -1,13 +1,13 @@
-//! Parts taken as what they are.
+//! Parts taken as what they are, each after all that the pass holds.
 ghost use Rattle.std.specs.Prelude.{◌≡◌, ◌<◌, MatchResult};
 ghost use Rattle.its_types.specs.declared.machine.Part.TheVariants as part;
 ghost use Rattle.lpi_config.specs.Conf.{conf_state};
 ghost use Rattle.lpi_pending.specs.InHand.{pend_state, AreEmpty, HasLpisOfConf, HasLpisOfPend};
 ghost use Rattle.owned_parts.specs.Owned.{translator_of};
-ghost use Rattle.its_steps.specs.Good.{Holds};
 ghost use Rattle.its_steps.specs.Parts.{Stands, translator_count, vcpu_count};
 ghost use Rattle.its_steps.specs.Contents as content;
 ghost use Rattle.its_turns.specs.Machines.{setup, view, IsOf};
+ghost use Rattle.its_turns.specs.Order.{IsInOrder};
 ghost use Rattle.its_turns.specs.Steps.{TakesPart, IsBusy};
 
 use crate::machine::{Machine, Pass};
@@ -23,7 +23,7 @@ use xlate_cache::Shard;
 pub fn try_take_maps(machine: &Machine, pass: &mut Pass, its: u8) -> Result<Box<Translator>, Busy>
     requires of { IsOf machine.now pass.old }
     requires stands { its < translator_count (setup machine.now) }
-    requires free { ¬ Holds (part.Maps its) (view pass.old).held }
+    requires order { IsInOrder (part.Maps its) (view pass.old).held }
     ensures of { IsOf machine.now pass.new }
     ensures result { MatchResult result
         (λ x. TakesPart (view pass.old) (part.Maps its) (content.Maps (translator_of x.value))
@@ -40,7 +40,7 @@ pub fn try_take_maps(machine: &Machine, pass: &mut Pass, its: u8) -> Result<Box<
 /// Tries the turn of guest memory once, and takes it out with the places for redistributors.
 pub fn try_take_memory(machine: &Machine, pass: &mut Pass) -> Result<Box<GuestMemory>, Busy>
     requires of { IsOf machine.now pass.old }
-    requires free { ¬ Holds part.Mem (view pass.old).held }
+    requires order { IsInOrder part.Mem (view pass.old).held }
     ensures of { IsOf machine.now pass.new }
     ensures result { MatchResult result
         (λ x. TakesPart (view pass.old) part.Mem (content.Mem x.value.memory x.value.track)
@@ -63,7 +63,7 @@ pub fn try_take_shard(
 ) -> Result<Shard, Busy>
     requires of { IsOf machine.now pass.old }
     requires stands { Stands (setup machine.now) (part.Shard its number) }
-    requires free { ¬ Holds (part.Shard its number) (view pass.old).held }
+    requires order { IsInOrder (part.Shard its number) (view pass.old).held }
     ensures of { IsOf machine.now pass.new }
     ensures result { MatchResult result
         (λ x. TakesPart (view pass.old) (part.Shard its number) (content.Shard x) (view pass.new))
@@ -80,7 +80,7 @@ pub fn try_take_shard(
 pub fn try_take_conf(machine: &Machine, pass: &mut Pass, vcpu: Vcpu) -> Result<Box<Conf>, Busy>
     requires of { IsOf machine.now pass.old }
     requires stands { vcpu.0 < vcpu_count (setup machine.now) }
-    requires free { ¬ Holds (part.Conf vcpu) (view pass.old).held }
+    requires order { IsInOrder (part.Conf vcpu) (view pass.old).held }
     ensures of { IsOf machine.now pass.new }
     ensures result { MatchResult result
         (λ x. TakesPart (view pass.old) (part.Conf vcpu) (content.Conf (conf_state x.value))
@@ -98,7 +98,7 @@ pub fn try_take_conf(machine: &Machine, pass: &mut Pass, vcpu: Vcpu) -> Result<B
 pub fn try_take_pend(machine: &Machine, pass: &mut Pass, vcpu: Vcpu) -> Result<Box<Pend>, Busy>
     requires of { IsOf machine.now pass.old }
     requires stands { vcpu.0 < vcpu_count (setup machine.now) }
-    requires free { ¬ Holds (part.Pend vcpu) (view pass.old).held }
+    requires order { IsInOrder (part.Pend vcpu) (view pass.old).held }
     ensures of { IsOf machine.now pass.new }
     ensures result { MatchResult result
         (λ x. TakesPart (view pass.old) (part.Pend vcpu) (content.Pend (pend_state x.value))

@@ -125,12 +125,14 @@ fn ask<R: Wait, G: Gate>(
     ensures answer { AsksAck (view pass.old) vcpu (call_of vcpu asked) (view pass.new)
         result }
 {
+    let mut attempt = 0u8;
     for _ in rt.forever() {
+        attempt = attempt.saturating_add(1);
         match try_ask(machine, pass, gate, vcpu, asked) {
             Attempt::Done(placed) => return Ok(placed),
             Attempt::Spent => return Err(Spent),
-            Attempt::Busy(_) => give_way(),
-            Attempt::Raced(_) => pause(),
+            Attempt::Busy(_) => give_way(attempt),
+            Attempt::Raced(_) => pause(attempt),
         }
     }
     unreachable!()

@@ -1,14 +1,13 @@
-use Rattle.std.proofs.Common.{subst, arith}
-use Rattle.its_types.specs.declared.machine.Part.TheVariants as part
-use Rattle.its_steps.specs.Good.{Holds}
+use Rattle.std.proofs.Common.{sym, subst, arith}
 use Rattle.its_turns.specs.Machines.{setup, view}
 use Rattle.its_turns.proofs.Telling.{looked_held}
+use Rattle.held_parts.specs.Shards.{AreBeforeShards}
 use Rattle.cmd_engine.proofs.Getting.{goes_shards, read_low}
 use Rattle.cmd_engine.proofs.taking.take_any.Goals as goal
 
-pub take_shards-requires-clause-free : goal.take_shards-requires-clause-free
-take_shards-requires-clause-free g c number holds = c.requires.free number (subst (Holds (part.Shard c.args.its number))
-    (looked_held (view c.args.pass.now) (view c.look-word.new.pass) c.look-word.result c.look-word.ensures.looks) holds)
+pub take_shards-requires-clause-order : goal.take_shards-requires-clause-order
+take_shards-requires-clause-order g c = subst (AreBeforeShards c.args.its)
+    (sym (looked_held (view c.args.pass.now) (view c.look-word.new.pass) c.look-word.result c.look-word.ensures.looks)) c.requires.order
 
 pub returns-clause-goes : goal.returns-clause-goes
 returns-clause-goes g c = goes_shards c.args.its (view c.args.pass.now) (view c.look-word.new.pass) (view c.take_shards.new.pass) c.look-word.result

@@ -2,7 +2,7 @@ use Rattle.std.proofs.Common.{Some, refl, ap, sym, ◌∙◌}
 use Rattle.its_turns.specs.Machines.{setup, view}
 use Rattle.its_turns.specs.declared.value.GuestMemory.{GuestMemory}
 use Rattle.cmd_engine.specs.Hands.{Memory, with_redists, IsOfStep}
-use Rattle.cmd_engine.proofs.Getting.{base_free, base_confs, base_pends, base_room, confs_free, pends_free, needed_in_hand, goes_needed, targets_of, low_kept}
+use Rattle.cmd_engine.proofs.Getting.{base_order, base_confs, base_pends, base_room, confs_order, pends_order, needed_in_hand, goes_needed, targets_of, low_kept}
 use Rattle.cmd_engine.proofs.taking.take_needed.Goals as goal
 
 pub needs-hands-requires : goal.needs-hands-requires
@@ -11,8 +11,8 @@ needs-hands-requires g c = let h = c.args.hands.now in record {
       c.desc.ensures.shape);
 }
 
-pub take_cached-requires-clause-free : goal.take_cached-requires-clause-free
-take_cached-requires-clause-free g c = base_free (setup c.args.machine.now) (view c.args.pass.now) c.args.hands.now c.requires.hands c.requires.base
+pub take_cached-requires-clause-order : goal.take_cached-requires-clause-order
+take_cached-requires-clause-order g c = base_order (setup c.args.machine.now) (view c.args.pass.now) c.args.hands.now c.requires.hands c.requires.base
 
 pub take_redists-requires-clause-empty : goal.take_redists-requires-clause-empty
 take_redists-requires-clause-empty g c = rw (c.deref_mut.ensures.value) (
@@ -24,11 +24,11 @@ pub take_redists-requires-clause-room : goal.take_redists-requires-clause-room
 take_redists-requires-clause-room g c = rw (c.deref_mut.ensures.value)
     (base_room (setup c.args.machine.now) (view c.args.pass.now) c.args.hands.now c.requires.hands c.requires.base c.in-Some.memory c.in-Some.is)
 
-pub take_redists-requires-clause-free : goal.take_redists-requires-clause-free
-take_redists-requires-clause-free g c = (
-  confs_free (setup c.args.machine.now) (view c.args.pass.now) c.args.hands.now c.requires.hands c.requires.base
+pub take_redists-requires-clause-order : goal.take_redists-requires-clause-order
+take_redists-requires-clause-order g c = (
+  confs_order (setup c.args.machine.now) (view c.args.pass.now) c.args.hands.now c.requires.hands c.requires.base
       (view c.take_cached.new.pass) c.take_cached.new.cached c.take_cached.ensures.held,
-  pends_free (setup c.args.machine.now) (view c.args.pass.now) c.args.hands.now c.requires.hands c.requires.base
+  pends_order (setup c.args.machine.now) (view c.args.pass.now) c.args.hands.now c.requires.hands c.requires.base
       (view c.take_cached.new.pass) c.take_cached.new.cached c.take_cached.ensures.held,
 )
 

@@ -6,8 +6,8 @@ use Rattle.cmd_engine.specs.Hands.{IsOfTranslator}
 use Rattle.cmd_engine.proofs.Getting.{goes_one}
 use Rattle.cmd_engine.proofs.taking.take_pair.Goals as goal
 
-pub take_shard-shard-requires-clause-free : goal.take_shard-shard-requires-clause-free
-take_shard-shard-requires-clause-free g c = c.requires.free c.shard_of-number.result
+pub take_shard-shard-requires-clause-order : goal.take_shard-shard-requires-clause-order
+take_shard-shard-requires-clause-order g c = c.requires.order c.shard_of-number.result
 
 pub returns-clause-goes : goal.returns-clause-goes
 returns-clause-goes g c = goes_one (IsOfTranslator c.args.its) (view c.args.pass.now) (view c.take_shard-shard.new.pass)

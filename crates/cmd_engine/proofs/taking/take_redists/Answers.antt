@@ -2,12 +2,12 @@ use Rattle.std.proofs.Common.{List, Option, length, ap, sym, ◌∙◌, subst}
 use Rattle.lpi_config.specs.Conf.{Conf as ConfInHand}
 use Rattle.its_steps.specs.Parts.{vcpu_count}
 use Rattle.its_turns.specs.Machines.{setup, view}
-use Rattle.held_parts.specs.Redists.{conf_held, row_of, pends_held, HoldsNoPend, IsConfIn, IsPendIn}
+use Rattle.held_parts.specs.Redists.{conf_held, row_of, pends_held, AreBeforePends, IsConfIn, IsPendIn}
 use Rattle.held_parts.specs.Rows.{in_row}
 use Rattle.held_parts.proofs.Going.{takes_then, takes_wider}
 use Rattle.cmd_engine.specs.Hands.{IsOfStep}
 use Rattle.cmd_engine.proofs.Getting.{conf_of_step, pend_of_step}
-use Rattle.cmd_engine.proofs.Held.{confs_no_pend}
+use Rattle.cmd_engine.proofs.Held.{confs_before_pends}
 use Rattle.cmd_engine.proofs.taking.take_redists.Goals as goal
 
 pub take_pends-requires-clause-empty : goal.take_pends-requires-clause-empty
@@ -16,9 +16,9 @@ take_pends-requires-clause-empty g c = rw (c.take_confs.ensures.pends) c.require
 pub take_pends-requires-clause-room : goal.take_pends-requires-clause-room
 take_pends-requires-clause-room g c = ap length c.take_confs.ensures.pends ∙ c.requires.room.1
 
-pub take_pends-requires-clause-free : goal.take_pends-requires-clause-free
-take_pends-requires-clause-free g c = subst HoldsNoPend (sym c.take_confs.ensures.held)
-    (confs_no_pend (vcpu_count (setup c.args.machine.now)) c.take_confs.new.redists (view c.args.pass.now).held c.requires.free.1)
+pub take_pends-requires-clause-order : goal.take_pends-requires-clause-order
+take_pends-requires-clause-order g c = subst AreBeforePends (sym c.take_confs.ensures.held)
+    (confs_before_pends (vcpu_count (setup c.args.machine.now)) c.take_confs.new.redists (view c.args.pass.now).held c.requires.order.1)
 
 pub returns-clause-takes : goal.returns-clause-takes
 returns-clause-takes g c = λ its.

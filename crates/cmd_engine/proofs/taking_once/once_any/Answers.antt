@@ -1,10 +1,8 @@
-use Rattle.std.proofs.Common.{List, refl, ap, ◌∙◌, subst, arith}
-use Rattle.its_types.specs.declared.machine.Part.TheVariants as part
+use Rattle.std.proofs.Common.{List, refl, ap, sym, ◌∙◌, subst, arith}
 use Rattle.its_steps.specs.Contents.{Held}
-use Rattle.its_steps.specs.Good.{Holds}
 use Rattle.its_turns.specs.Machines.{setup, view}
 use Rattle.its_turns.proofs.Telling.{looked_held}
-use Rattle.held_parts.specs.Shards.{IsShardOf, shards_held}
+use Rattle.held_parts.specs.Shards.{AreBeforeShards, IsShardOf, shards_held}
 use Rattle.held_parts.proofs.Once.{once_wider, busy_wider, busy_held}
 use Rattle.cmd_engine.specs.Hands.{IsOfTranslator}
 use Rattle.cmd_engine.proofs.Getting.{read_low, shard_is_own}
@@ -23,9 +21,9 @@ returns-then-stamp_of-stamp_last-clause-result c =
       low = λ any. read_low (setup c.args.machine.now) v x w its c.requires.of.1 looks (omega (arith, n, last, less));
     }
 
-pub once_shards-requires-clause-free : goal.once_shards-requires-clause-free
-once_shards-requires-clause-free c number holds = c.requires.free number (subst (Holds (part.Shard c.args.its number))
-    (looked_held (view c.args.pass.now) (view c.look-word.new.pass) c.look-word.result c.look-word.ensures.looks) holds)
+pub once_shards-requires-clause-order : goal.once_shards-requires-clause-order
+once_shards-requires-clause-order c = subst (AreBeforeShards c.args.its)
+    (sym (looked_held (view c.args.pass.now) (view c.look-word.new.pass) c.look-word.result c.look-word.ensures.looks)) c.requires.order
 
 pub returns-in-Ok-clause-result : goal.returns-in-Ok-clause-result
 returns-in-Ok-clause-result c =

@@ -3,7 +3,7 @@ use Rattle.its_turns.specs.Machines.{setup, view}
 use Rattle.held_parts.specs.Redists.{IsRedistIn}
 use Rattle.held_parts.proofs.Once.{once_wider, once_takes, busy_wider, busy_held}
 use Rattle.cmd_engine.specs.Hands.{IsOfTranslator, IsOfStep}
-use Rattle.cmd_engine.proofs.Getting.{base_free, confs_free, pends_free, needed_in_hand, targets_of, low_kept, own_of_step}
+use Rattle.cmd_engine.proofs.Getting.{base_order, confs_order, pends_order, needed_in_hand, targets_of, low_kept, own_of_step}
 use Rattle.cmd_engine.proofs.Kept.{kept_in_hand, kept_memory, freed_in_hand, no_redists, places_room, redist_of_step}
 use Rattle.cmd_engine.proofs.Trying.{once_goes_wider, gives_up_wider, at_once_then, takes_goes, gave_first, gave_then}
 use Rattle.cmd_engine.proofs.taking_once.once_needed.Goals as goal
@@ -14,8 +14,8 @@ needs-needed-requires c = let h = c.args.hands.now in record {
       c.desc.ensures.shape);
 }
 
-pub once_cached-requires-clause-free : goal.once_cached-requires-clause-free
-once_cached-requires-clause-free c = base_free (setup c.args.machine.now) (view c.args.pass.now) c.args.hands.now c.requires.hands c.requires.base
+pub once_cached-requires-clause-order : goal.once_cached-requires-clause-order
+once_cached-requires-clause-order c = base_order (setup c.args.machine.now) (view c.args.pass.now) c.args.hands.now c.requires.hands c.requires.base
 
 -- no shard was free
 pub returns-in-Err-clause-hands : goal.returns-in-Err-clause-hands
@@ -34,14 +34,14 @@ returns-in-Err-clause-result c = let its = c.args.hands.now.its in
 pub once_parts-requires-clause-empty : goal.once_parts-requires-clause-empty
 once_parts-requires-clause-empty c = no_redists (setup c.args.machine.now) (view c.args.pass.now) c.args.hands.now c.requires.hands c.requires.base
 
-pub once_parts-requires-clause-no_conf : goal.once_parts-requires-clause-no_conf
-once_parts-requires-clause-no_conf c =
-    confs_free (setup c.args.machine.now) (view c.args.pass.now) c.args.hands.now c.requires.hands c.requires.base
+pub once_parts-requires-clause-before_confs : goal.once_parts-requires-clause-before_confs
+once_parts-requires-clause-before_confs c =
+    confs_order (setup c.args.machine.now) (view c.args.pass.now) c.args.hands.now c.requires.hands c.requires.base
     (view c.once_cached.new.pass) c.once_cached.new.cached c.in-Ok.ensures.result.held
 
-pub once_parts-requires-clause-no_pend : goal.once_parts-requires-clause-no_pend
-once_parts-requires-clause-no_pend c =
-    pends_free (setup c.args.machine.now) (view c.args.pass.now) c.args.hands.now c.requires.hands c.requires.base
+pub once_parts-requires-clause-before_pends : goal.once_parts-requires-clause-before_pends
+once_parts-requires-clause-before_pends c =
+    pends_order (setup c.args.machine.now) (view c.args.pass.now) c.args.hands.now c.requires.hands c.requires.base
     (view c.once_cached.new.pass) c.once_cached.new.cached c.in-Ok.ensures.result.held
 
 pub returns-in-Ok-once_parts-clause-hands : goal.returns-in-Ok-once_parts-clause-hands

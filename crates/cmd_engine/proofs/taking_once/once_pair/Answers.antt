@@ -10,8 +10,8 @@ use Rattle.cmd_engine.specs.Hands.{IsOfTranslator}
 use Rattle.cmd_engine.proofs.Trying.{at_once_first, at_once_took, gave_one}
 use Rattle.cmd_engine.proofs.taking_once.once_pair.Goals as goal
 
-pub try_take_shard-requires-clause-free : goal.try_take_shard-requires-clause-free
-try_take_shard-requires-clause-free c = c.requires.free c.shard_of-number.result
+pub try_take_shard-requires-clause-order : goal.try_take_shard-requires-clause-order
+try_take_shard-requires-clause-order c = c.requires.order c.shard_of-number.result
 
 pub returns-in-Ok-clause-result : goal.returns-in-Ok-clause-result
 returns-in-Ok-clause-result c =

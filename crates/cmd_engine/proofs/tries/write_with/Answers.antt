@@ -7,13 +7,13 @@ use Rattle.cmd_engine.specs.Registers.{write_call}
 use mathlib.Core.List.{IsPrefix}
 use Rattle.cmd_engine.specs.Telling.{ReadLow}
 use Rattle.cmd_engine.proofs.Came.{late_comes, low_from}
-use Rattle.cmd_engine.proofs.Kept.{kept_in_hand, shards_in_hand, own_free}
+use Rattle.cmd_engine.proofs.Kept.{kept_in_hand, shards_in_hand, own_order}
 use Rattle.cmd_engine.proofs.Trying.{at_once_goes, at_once_got, at_once_then, gave_then}
 use Rattle.cmd_engine.proofs.tries.write_with.Goals as goal
 
-pub once_cached-requires-clause-free : goal.once_cached-requires-clause-free
-once_cached-requires-clause-free g c =
-    own_free (setup c.args.machine.now) (view c.args.pass.now) c.args.hands.now c.requires.hands c.requires.own c.requires.nothing
+pub once_cached-requires-clause-order : goal.once_cached-requires-clause-order
+once_cached-requires-clause-order g c =
+    own_order (setup c.args.machine.now) (view c.args.pass.now) c.args.hands.now c.requires.hands c.requires.own c.requires.nothing
 
 pub make_write-requires-clause-hands : goal.make_write-requires-clause-hands
 make_write-requires-clause-hands g c = let got = c.in-Ok.ensures.result in

@@ -6,7 +6,7 @@ use Rattle.its_steps.specs.Contents.{Conf}
 use Rattle.its_turns.specs.Machines.{setup, view}
 use Rattle.held_parts.specs.Redists.{conf_held, IsConfIn}
 use Rattle.held_parts.proofs.Going.{takes_first, takes_one, takes_then, took_held}
-use Rattle.held_parts.proofs.RedistLoops.{all_taken, none_taken, is_free, not_taken, one_taken}
+use Rattle.held_parts.proofs.RedistLoops.{all_taken, none_taken, comes_next, not_taken, one_taken}
 use Rattle.held_parts.proofs.RedistRows.{conf_kind}
 use Rattle.held_parts.proofs.confs.take_confs.Goals as goal
 
@@ -21,11 +21,11 @@ loop-next-init g c = let s = setup c.args.machine.now in record {
   allowed = c.requires.allowed;
 }
 
-pub take_conf-conf-requires-clause-free : goal.take_conf-conf-requires-clause-free
-take_conf-conf-requires-clause-free g c =
+pub take_conf-conf-requires-clause-order : goal.take_conf-conf-requires-clause-order
+take_conf-conf-requires-clause-order g c =
     let l = c.loop-next in let s = setup c.args.machine.now in let vcpu = c.in-Some.vcpu in
-    is_free conf_held (HasLpisOfConf s.start.layout.shape) s c.args.set l.next l.redists.confs (view c.args.pass.now).held (view l.pass).held l.invariant.taken
-    conf conf_kind vcpu c.in-Some.ensures.least (c.requires.free (record { 0 = vcpu }))
+    comes_next conf_held (HasLpisOfConf s.start.layout.shape) s c.args.set l.next l.redists.confs (view c.args.pass.now).held (view l.pass).held l.invariant.taken
+    conf conf_kind vcpu c.in-Some.ensures.least (c.requires.order (record { 0 = vcpu }))
 
 pub loop-next-preserved : goal.loop-next-preserved
 loop-next-preserved g c =

@@ -6,7 +6,7 @@ use Rattle.its_steps.specs.Contents.{Pend}
 use Rattle.its_turns.specs.Machines.{setup, view}
 use Rattle.held_parts.specs.Redists.{pend_held, IsPendIn}
 use Rattle.held_parts.proofs.Going.{takes_first, takes_one, takes_then, took_held}
-use Rattle.held_parts.proofs.RedistLoops.{all_taken, none_taken, is_free, not_taken, one_taken}
+use Rattle.held_parts.proofs.RedistLoops.{all_taken, none_taken, comes_next, not_taken, one_taken}
 use Rattle.held_parts.proofs.RedistRows.{pend_kind}
 use Rattle.held_parts.proofs.pends.take_pends.Goals as goal
 
@@ -21,11 +21,11 @@ loop-next-init g c = let s = setup c.args.machine.now in record {
   allowed = c.requires.allowed;
 }
 
-pub take_pend-pend-requires-clause-free : goal.take_pend-pend-requires-clause-free
-take_pend-pend-requires-clause-free g c =
+pub take_pend-pend-requires-clause-order : goal.take_pend-pend-requires-clause-order
+take_pend-pend-requires-clause-order g c =
     let l = c.loop-next in let s = setup c.args.machine.now in let vcpu = c.in-Some.vcpu in
-    is_free pend_held (HasLpisOfPend s.start.layout.shape) s c.args.set l.next l.redists.pends (view c.args.pass.now).held (view l.pass).held l.invariant.taken
-    pend pend_kind vcpu c.in-Some.ensures.least (c.requires.free (record { 0 = vcpu }))
+    comes_next pend_held (HasLpisOfPend s.start.layout.shape) s c.args.set l.next l.redists.pends (view c.args.pass.now).held (view l.pass).held l.invariant.taken
+    pend pend_kind vcpu c.in-Some.ensures.least (c.requires.order (record { 0 = vcpu }))
 
 pub loop-next-preserved : goal.loop-next-preserved
 loop-next-preserved g c =

@@ -8,7 +8,7 @@ use Rattle.its_turns.specs.Machines.{setup, view}
 use Rattle.held_parts.specs.Redists.{conf_held, IsConfIn}
 use Rattle.held_parts.proofs.Below.{taken_below}
 use Rattle.held_parts.proofs.Once.{once_first, once_one, once_then, got_held, busy_one, busy_then}
-use Rattle.held_parts.proofs.RedistLoops.{all_taken, none_taken, is_free, not_taken, one_taken}
+use Rattle.held_parts.proofs.RedistLoops.{all_taken, none_taken, comes_next, not_taken, one_taken}
 use Rattle.held_parts.proofs.RedistRows.{conf_kind}
 use Rattle.held_parts.proofs.redists.once_confs.Goals as goal
 
@@ -22,11 +22,11 @@ loop-next-init c = let s = setup c.args.machine.now in record {
   pends = refl;
 }
 
-pub try_take_conf-requires-clause-free : goal.try_take_conf-requires-clause-free
-try_take_conf-requires-clause-free c =
+pub try_take_conf-requires-clause-order : goal.try_take_conf-requires-clause-order
+try_take_conf-requires-clause-order c =
     let l = c.loop-next in let s = setup c.args.machine.now in let vcpu = c.in-Some.vcpu in
-    is_free conf_held (HasLpisOfConf s.start.layout.shape) s c.args.set l.next l.redists.confs (view c.args.pass.now).held (view l.pass).held l.invariant.taken
-    conf conf_kind vcpu c.in-Some.ensures.least (c.requires.free (record { 0 = vcpu }))
+    comes_next conf_held (HasLpisOfConf s.start.layout.shape) s c.args.set l.next l.redists.confs (view c.args.pass.now).held (view l.pass).held l.invariant.taken
+    conf conf_kind vcpu c.in-Some.ensures.least (c.requires.order (record { 0 = vcpu }))
 
 pub put_first_confs-requires-clause-hand : goal.put_first_confs-requires-clause-hand
 put_first_confs-requires-clause-hand c =

@@ -8,7 +8,7 @@ use Rattle.its_turns.specs.Machines.{setup, view}
 use Rattle.held_parts.specs.Redists.{pend_held, IsPendIn}
 use Rattle.held_parts.proofs.Below.{taken_below}
 use Rattle.held_parts.proofs.Once.{once_first, once_one, once_then, got_held, busy_one, busy_then}
-use Rattle.held_parts.proofs.RedistLoops.{all_taken, none_taken, is_free, not_taken, one_taken}
+use Rattle.held_parts.proofs.RedistLoops.{all_taken, none_taken, comes_next, not_taken, one_taken}
 use Rattle.held_parts.proofs.RedistRows.{pend_kind}
 use Rattle.held_parts.proofs.redists.once_pends.Goals as goal
 
@@ -22,11 +22,11 @@ loop-next-init c = let s = setup c.args.machine.now in record {
   confs = refl;
 }
 
-pub try_take_pend-requires-clause-free : goal.try_take_pend-requires-clause-free
-try_take_pend-requires-clause-free c =
+pub try_take_pend-requires-clause-order : goal.try_take_pend-requires-clause-order
+try_take_pend-requires-clause-order c =
     let l = c.loop-next in let s = setup c.args.machine.now in let vcpu = c.in-Some.vcpu in
-    is_free pend_held (HasLpisOfPend s.start.layout.shape) s c.args.set l.next l.redists.pends (view c.args.pass.now).held (view l.pass).held l.invariant.taken
-    pend pend_kind vcpu c.in-Some.ensures.least (c.requires.free (record { 0 = vcpu }))
+    comes_next pend_held (HasLpisOfPend s.start.layout.shape) s c.args.set l.next l.redists.pends (view c.args.pass.now).held (view l.pass).held l.invariant.taken
+    pend pend_kind vcpu c.in-Some.ensures.least (c.requires.order (record { 0 = vcpu }))
 
 pub put_first_pends-requires-clause-hand : goal.put_first_pends-requires-clause-hand
 put_first_pends-requires-clause-hand c =

@@ -2,10 +2,10 @@ use Rattle.std.proofs.Common.{List, Option, length, ap, sym, ◌∙◌, subst}
 use Rattle.lpi_config.specs.Conf.{Conf as ConfInHand}
 use Rattle.its_steps.specs.Parts.{vcpu_count}
 use Rattle.its_turns.specs.Machines.{setup, view}
-use Rattle.held_parts.specs.Redists.{conf_held, row_of, pends_held, HoldsNoPend, IsConfIn, IsPendIn, IsRedistIn}
+use Rattle.held_parts.specs.Redists.{conf_held, row_of, pends_held, AreBeforePends, IsConfIn, IsPendIn, IsRedistIn}
 use Rattle.held_parts.specs.Rows.{in_row}
 use Rattle.held_parts.proofs.Once.{once_wider, once_then, busy_wider, busy_then, busy_held}
-use Rattle.held_parts.proofs.Both.{conf_of_both, pend_of_both, confs_no_pend}
+use Rattle.held_parts.proofs.Both.{conf_of_both, pend_of_both, confs_before_pends}
 use Rattle.held_parts.proofs.redists.once_redists.Goals as goal
 
 pub returns-in-Err-clause-result : goal.returns-in-Err-clause-result
@@ -28,9 +28,9 @@ once_pends-requires-clause-empty c = rw (c.once_confs.ensures.pends) c.requires.
 pub once_pends-requires-clause-room : goal.once_pends-requires-clause-room
 once_pends-requires-clause-room c = ap length c.once_confs.ensures.pends ∙ c.requires.empty.places.pends
 
-pub once_pends-requires-clause-free : goal.once_pends-requires-clause-free
-once_pends-requires-clause-free c = subst HoldsNoPend (sym c.in-Ok.ensures.result.1)
-    (confs_no_pend (vcpu_count (setup c.args.machine.now)) c.once_confs.new.redists (view c.args.pass.now).held c.requires.no_pend)
+pub once_pends-requires-clause-order : goal.once_pends-requires-clause-order
+once_pends-requires-clause-order c = subst AreBeforePends (sym c.in-Ok.ensures.result.1)
+    (confs_before_pends (vcpu_count (setup c.args.machine.now)) c.once_confs.new.redists (view c.args.pass.now).held c.requires.before_pends)
 
 pub returns-in-Ok-once_pends-clause-result : goal.returns-in-Ok-once_pends-clause-result
 returns-in-Ok-once_pends-clause-result c =

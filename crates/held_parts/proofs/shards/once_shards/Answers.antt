@@ -6,7 +6,7 @@ use Rattle.its_steps.specs.World.{View}
 use Rattle.its_turns.specs.Machines.{setup, view}
 use Rattle.held_parts.specs.Shards.{IsShardOf}
 use Rattle.held_parts.proofs.Once.{once_first, once_one, once_then, got_held, busy_one, busy_then}
-use Rattle.held_parts.proofs.ShardLoops.{none_taken, is_free, one_taken, all_taken}
+use Rattle.held_parts.proofs.ShardLoops.{none_taken, comes_next, one_taken, all_taken}
 use Rattle.held_parts.proofs.shards.once_shards.Goals as goal
 
 pub loop-number-init : goal.loop-number-init
@@ -16,9 +16,9 @@ loop-number-init c = record {
   taken = none_taken c.args.its c.args.shards.now (view c.args.pass.now).held c.requires.empty;
 }
 
-pub try_take_shard-requires-clause-free : goal.try_take_shard-requires-clause-free
-try_take_shard-requires-clause-free c = let l = c.loop-number in is_free c.args.its l.number (l.number + 1) l.shards (view c.args.pass.now).held
-    (view l.pass).held l.invariant.taken (omega arith) c.requires.free
+pub try_take_shard-requires-clause-order : goal.try_take_shard-requires-clause-order
+try_take_shard-requires-clause-order c = let l = c.loop-number in comes_next c.args.its l.number (l.number + 1) l.shards (view c.args.pass.now).held
+    (view l.pass).held l.invariant.taken (omega arith) c.requires.order
 
 pub put_first-requires-clause-held : goal.put_first-requires-clause-held
 put_first-requires-clause-held c = let l = c.loop-number in (

@@ -5,7 +5,7 @@ use Rattle.its_steps.specs.Contents.{Shard}
 use Rattle.its_turns.specs.Machines.{view}
 use Rattle.held_parts.specs.Shards.{IsShardOf}
 use Rattle.held_parts.proofs.Going.{takes_first, takes_one, takes_then, took_held}
-use Rattle.held_parts.proofs.ShardLoops.{none_taken, is_free, one_taken}
+use Rattle.held_parts.proofs.ShardLoops.{none_taken, comes_next, one_taken}
 use Rattle.held_parts.proofs.shards.take_shards.Goals as goal
 
 pub loop-number-init : goal.loop-number-init
@@ -16,9 +16,9 @@ loop-number-init g c = record {
   allowed = c.requires.allowed;
 }
 
-pub take_shard-shard-requires-clause-free : goal.take_shard-shard-requires-clause-free
-take_shard-shard-requires-clause-free g c = let l = c.loop-number in is_free c.args.its l.number (l.number + 1) l.shards (view c.args.pass.now).held
-    (view l.pass).held l.invariant.taken (omega arith) c.requires.free
+pub take_shard-shard-requires-clause-order : goal.take_shard-shard-requires-clause-order
+take_shard-shard-requires-clause-order g c = let l = c.loop-number in comes_next c.args.its l.number (l.number + 1) l.shards (view c.args.pass.now).held
+    (view l.pass).held l.invariant.taken (omega arith) c.requires.order
 
 pub loop-number-preserved : goal.loop-number-preserved
 loop-number-preserved g c = let l = c.loop-number in let t = c.take_shard-shard in record {

@@ -16,7 +16,7 @@ use Rattle.held_parts.specs.Redists.{row_of, conf_held, pends_held, IsConfIn, Is
 use Rattle.held_parts.specs.Wholes.{IsNoShard, redists_in, second_of, second_held, maps_held}
 use Rattle.held_parts.specs.declared.whole.Whole.{Whole}
 use Rattle.held_parts.proofs.Going.{takes_one, takes_then, takes_wider, took_held}
-use Rattle.held_parts.proofs.Wholes.{AllOf, set_is_all, confs_free, pends_free, conf_no_shard, pend_no_shard}
+use Rattle.held_parts.proofs.Wholes.{AllOf, set_is_all, confs_order, pends_order, conf_no_shard, pend_no_shard}
 use Rattle.held_parts.proofs.Wholes.{is_whole, takes_whole}
 use Rattle.held_parts.proofs.whole.take_whole.Goals as goal
 
@@ -26,12 +26,12 @@ take_confs-requires-clause-empty g c = rw (c.deref_mut.ensures.value) c.take_mem
 pub take_confs-requires-clause-room : goal.take_confs-requires-clause-room
 take_confs-requires-clause-room g c = ap (λ (m : GuestMemory). length m.redists.confs) c.deref_mut.ensures.value ∙ c.take_memory-memory.ensures.room.conf_room
 
-pub take_confs-requires-clause-free : goal.take_confs-requires-clause-free
-take_confs-requires-clause-free g c =
+pub take_confs-requires-clause-order : goal.take_confs-requires-clause-order
+take_confs-requires-clause-order g c =
     let first = took_held (view c.args.pass.now) (view c.take_maps-first.new.pass) (part.Maps 0) (Maps (translator_of c.take_maps-first.result.value))
     c.take_maps-first.ensures.takes ∙ ap (λ (l : List Held). maps_held 0 c.take_maps-first.result.value ∷ l) c.requires.free in
     let memory = c.take_memory-memory.result.value in
-    confs_free (option_map (λ b. b.value) c.take_second-second.result) c.take_maps-first.result.value (Mem memory.memory memory.track)
+    confs_order (option_map (λ b. b.value) c.take_second-second.result) c.take_maps-first.result.value (Mem memory.memory memory.track)
     (view c.take_memory-memory.new.pass).held
     (took_held (view c.take_second-second.new.pass) (view c.take_memory-memory.new.pass) part.Mem (Mem memory.memory memory.track)
     c.take_memory-memory.ensures.takes ∙ ap (λ (l : List Held). out part.Mem (Mem memory.memory memory.track) ∷ l)
@@ -44,12 +44,12 @@ pub take_pends-requires-clause-room : goal.take_pends-requires-clause-room
 take_pends-requires-clause-room g c = ap length c.take_confs.ensures.pends
     ∙ (ap (λ (m : GuestMemory). length m.redists.pends) c.deref_mut.ensures.value ∙ c.take_memory-memory.ensures.room.pend_room)
 
-pub take_pends-requires-clause-free : goal.take_pends-requires-clause-free
-take_pends-requires-clause-free g c =
+pub take_pends-requires-clause-order : goal.take_pends-requires-clause-order
+take_pends-requires-clause-order g c =
     let first = took_held (view c.args.pass.now) (view c.take_maps-first.new.pass) (part.Maps 0) (Maps (translator_of c.take_maps-first.result.value))
     c.take_maps-first.ensures.takes ∙ ap (λ (l : List Held). maps_held 0 c.take_maps-first.result.value ∷ l) c.requires.free in
     let memory = c.take_memory-memory.result.value in
-    pends_free (option_map (λ b. b.value) c.take_second-second.result) c.take_maps-first.result.value (Mem memory.memory memory.track)
+    pends_order (option_map (λ b. b.value) c.take_second-second.result) c.take_maps-first.result.value (Mem memory.memory memory.track)
     c.take_confs.new.redists (vcpu_count (setup c.args.machine.now)) (view c.take_memory-memory.new.pass).held (view c.take_confs.new.pass).held
     (took_held (view c.take_second-second.new.pass) (view c.take_memory-memory.new.pass) part.Mem (Mem memory.memory memory.track)
     c.take_memory-memory.ensures.takes ∙ ap (λ (l : List Held). out part.Mem (Mem memory.memory memory.track) ∷ l)

@@ -8,14 +8,14 @@ use Rattle.its_turns.specs.Contents.{held_before}
 use Rattle.held_parts.specs.Taking.{holding}
 use Rattle.held_parts.specs.Wholes.{IsNoShard, maps_held, second_held}
 use Rattle.held_parts.proofs.Once.{once_one, once_then, got_held, busy_one, busy_then, busy_held}
-use Rattle.held_parts.proofs.Wholes.{first_free}
+use Rattle.held_parts.proofs.Wholes.{first_order}
 use Rattle.held_parts.proofs.whole_once.once_maps.Goals as goal
 
 pub returns-in-Err-clause-result : goal.returns-in-Err-clause-result
 returns-in-Err-clause-result c = busy_one IsNoShard (view c.args.pass.now) (view c.try_take_maps.new.pass) (part.Maps 0) c.in-Err.busy tt c.in-Err.ensures.result
 
-pub once_second-requires-clause-free : goal.once_second-requires-clause-free
-once_second-requires-clause-free c = let t = c.in-Ok.first.value in first_free t (view c.try_take_maps.new.pass).held
+pub once_second-requires-clause-order : goal.once_second-requires-clause-order
+once_second-requires-clause-order c = let t = c.in-Ok.first.value in first_order t (view c.try_take_maps.new.pass).held
     (got_held (view c.args.pass.now) (view c.try_take_maps.new.pass) (part.Maps 0) (Maps (translator_of t)) c.in-Ok.ensures.result
     ∙ ap (λ (l : List Held). maps_held 0 t ∷ l) c.requires.free)
 

@@ -6,10 +6,10 @@ use Rattle.its_steps.specs.World.{out}
 use Rattle.its_turns.specs.Contents.{held_before}
 use Rattle.its_turns.specs.Machines.{setup, view}
 use Rattle.its_turns.specs.declared.value.GuestMemory.{GuestMemory}
-use Rattle.held_parts.specs.Redists.{redists_held, HoldsNoConf, HoldsNoPend, IsRedistIn}
+use Rattle.held_parts.specs.Redists.{redists_held, AreBeforeConfs, AreBeforePends, IsRedistIn}
 use Rattle.held_parts.specs.Taking.{holding}
 use Rattle.held_parts.specs.Wholes.{IsNoShard}
-use Rattle.held_parts.proofs.Both.{both_no_shard, mem_no_conf, mem_no_pend, empty_places}
+use Rattle.held_parts.proofs.Both.{both_no_shard, mem_before_confs, mem_before_pends, empty_places}
 use Rattle.held_parts.proofs.Once.{once_one, once_then, once_wider, got_held, busy_one, busy_then, busy_wider, busy_held}
 use Rattle.held_parts.proofs.whole_once.once_memory.Goals as goal
 
@@ -20,15 +20,15 @@ pub once_redists-requires-clause-empty : goal.once_redists-requires-clause-empty
 once_redists-requires-clause-empty c =
     rw (c.deref_mut.ensures.value) (empty_places (setup c.args.machine.now) c.in-Ok.memory.value.redists c.in-Ok.ensures.result.1)
 
-pub once_redists-requires-clause-no_conf : goal.once_redists-requires-clause-no_conf
-once_redists-requires-clause-no_conf c = let m = c.in-Ok.memory.value in
-    subst HoldsNoConf (sym (got_held (view c.args.pass.now) (view c.try_take_memory.new.pass) part.Mem (Mem m.memory m.track) c.in-Ok.ensures.result.0))
-    (mem_no_conf (Mem m.memory m.track) (view c.args.pass.now).held c.requires.no_conf)
+pub once_redists-requires-clause-before_confs : goal.once_redists-requires-clause-before_confs
+once_redists-requires-clause-before_confs c = let m = c.in-Ok.memory.value in
+    subst AreBeforeConfs (sym (got_held (view c.args.pass.now) (view c.try_take_memory.new.pass) part.Mem (Mem m.memory m.track) c.in-Ok.ensures.result.0))
+    (mem_before_confs (Mem m.memory m.track) (view c.args.pass.now).held c.requires.before_confs)
 
-pub once_redists-requires-clause-no_pend : goal.once_redists-requires-clause-no_pend
-once_redists-requires-clause-no_pend c = let m = c.in-Ok.memory.value in
-    subst HoldsNoPend (sym (got_held (view c.args.pass.now) (view c.try_take_memory.new.pass) part.Mem (Mem m.memory m.track) c.in-Ok.ensures.result.0))
-    (mem_no_pend (Mem m.memory m.track) (view c.args.pass.now).held c.requires.no_pend)
+pub once_redists-requires-clause-before_pends : goal.once_redists-requires-clause-before_pends
+once_redists-requires-clause-before_pends c = let m = c.in-Ok.memory.value in
+    subst AreBeforePends (sym (got_held (view c.args.pass.now) (view c.try_take_memory.new.pass) part.Mem (Mem m.memory m.track) c.in-Ok.ensures.result.0))
+    (mem_before_pends (Mem m.memory m.track) (view c.args.pass.now).held c.requires.before_pends)
 
 pub returns-in-Ok-once_redists-clause-result : goal.returns-in-Ok-once_redists-clause-result
 returns-in-Ok-once_redists-clause-result c =

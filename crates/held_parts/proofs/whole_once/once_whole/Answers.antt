@@ -13,21 +13,21 @@ use Rattle.held_parts.specs.Taking.{LostNone, holding}
 use Rattle.held_parts.specs.Wholes.{IsNoShard}
 use Rattle.held_parts.specs.declared.whole.Whole.{Whole}
 use Rattle.held_parts.proofs.Once.{once_then, once_takes, none_lost, busy_then, busy_held}
-use Rattle.held_parts.proofs.Wholes.{set_is_all, is_whole, takes_whole, memory_free}
-use Rattle.held_parts.proofs.OnceWhole.{maps_no_conf, maps_no_pend}
+use Rattle.held_parts.proofs.Wholes.{set_is_all, is_whole, takes_whole, memory_order}
+use Rattle.held_parts.proofs.OnceWhole.{maps_before_confs, maps_before_pends}
 use Rattle.held_parts.proofs.whole_once.once_whole.Goals as goal
 
-pub once_memory-requires-clause-no_memory : goal.once_memory-requires-clause-no_memory
-once_memory-requires-clause-no_memory g c = let x = c.in-Ok.maps in
-    memory_free (option_map (λ b. b.value) x.1) x.0.value (view c.once_maps.new.pass).held c.in-Ok.ensures.result.1
+pub once_memory-requires-clause-order : goal.once_memory-requires-clause-order
+once_memory-requires-clause-order g c = let x = c.in-Ok.maps in
+    memory_order (option_map (λ b. b.value) x.1) x.0.value (view c.once_maps.new.pass).held c.in-Ok.ensures.result.1
 
-pub once_memory-requires-clause-no_conf : goal.once_memory-requires-clause-no_conf
-once_memory-requires-clause-no_conf g c = let x = c.in-Ok.maps in
-    maps_no_conf (option_map (λ b. b.value) x.1) x.0.value (view c.once_maps.new.pass).held c.in-Ok.ensures.result.1
+pub once_memory-requires-clause-before_confs : goal.once_memory-requires-clause-before_confs
+once_memory-requires-clause-before_confs g c = let x = c.in-Ok.maps in
+    maps_before_confs (option_map (λ b. b.value) x.1) x.0.value (view c.once_maps.new.pass).held c.in-Ok.ensures.result.1
 
-pub once_memory-requires-clause-no_pend : goal.once_memory-requires-clause-no_pend
-once_memory-requires-clause-no_pend g c = let x = c.in-Ok.maps in
-    maps_no_pend (option_map (λ b. b.value) x.1) x.0.value (view c.once_maps.new.pass).held c.in-Ok.ensures.result.1
+pub once_memory-requires-clause-before_pends : goal.once_memory-requires-clause-before_pends
+once_memory-requires-clause-before_pends g c = let x = c.in-Ok.maps in
+    maps_before_pends (option_map (λ b. b.value) x.1) x.0.value (view c.once_maps.new.pass).held c.in-Ok.ensures.result.1
 
 pub returns-in-Ok-once_memory-clause-result : goal.returns-in-Ok-once_memory-clause-result
 returns-in-Ok-once_memory-clause-result g c =
