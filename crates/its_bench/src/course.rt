@@ -70,10 +70,12 @@ impl Lane {
     }
 }
 
-/// How many signals each thread makes, and whether each is timed.
+/// Which signals are made.
 #[derive(Clone, Copy)]
 pub struct Sending {
+    /// How many each thread makes.
     pub count: u32,
+    /// Whether each is timed.
     pub timed: bool,
 }
 
