@@ -1,10 +1,13 @@
 //! The calls that its_bench measures, in plain Rust of the same shape and without proofs: words and slots that stand
 //! 128 bytes apart, a compare-and-exchange for each turn and one of the word that orders the calls, and parts that
 //! are taken out of their slots and put back. The maps are a `HashMap`. Beside them stand signals under one `Mutex`
-//! around a map, and the locked instructions of a hit alone.
+//! around a map, and the locked instructions of a hit alone. The rows of `its_bench beside` stand in beside/.
 //!
 //! Build: rustc --edition 2021 -C opt-level=3 -o ports_peer bench/ports_peer.rs
 //! usage: ports_peer COUNT [NAME]
+//!        ports_peer beside COUNT [NAME [ports|mutex|spinlock|ticket]]
+
+mod beside;
 
 use std::cell::UnsafeCell;
 use std::collections::HashMap;
@@ -744,6 +747,9 @@ fn copies(count: u32) -> (u64, Duration) {
 
 fn main() {
     let words: Vec<String> = std::env::args().collect();
+    if words.get(1).is_some_and(|word| word == "beside") {
+        return beside::print_rows(&words[2..]);
+    }
     let count: u32 = words.get(1).and_then(|word| word.parse().ok()).expect("usage: ports_peer COUNT [NAME]");
     let bits = count.clamp(2, 65_536).ilog2();
     let events = 1 << bits;

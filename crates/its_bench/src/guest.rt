@@ -23,6 +23,9 @@ const EVENTS: u32 = 1 << EVENT_BITS;
 
 const EVENT_BITS: u8 = 10;
 
+// Of a device with as many events as the queue has places.
+const NEW_BITS: u8 = 11;
+
 // The first of their LPIs.
 const FIRST_LPI: u32 = 9216;
 
@@ -112,7 +115,42 @@ impl Queue {
     ) -> Result<Rounds, AllocError> {
         let mut rounds = Rounds::of(alloc, Ask::Save)?;
         self.write_events(&mut rounds.before, dev, icid)?;
-        self.go_on(&mut rounds.before, EVENTS)?;
+        self.carry_out(&mut rounds.before, EVENTS)?;
+        Ok(rounds)
+    }
+
+    /// Has the translator map 1,024 events of a device in a collection, and carry out INVALL of
+    /// it over and over.
+    pub fn rounds_of_invalls(
+        mut self,
+        alloc: Global,
+        dev: DeviceId,
+        icid: u16,
+    ) -> Result<Rounds, AllocError> {
+        let mut rounds = Rounds::none(alloc);
+        self.write_events(&mut rounds.before, dev, icid)?;
+        self.carry_out(&mut rounds.before, EVENTS)?;
+        let invall = Command::Invall { icid: Icid(icid) };
+        self.fill(&mut rounds.before, &invall, &invall)?;
+        self.go_round(&mut rounds.calls)?;
+        Ok(rounds)
+    }
+
+    /// Has the translator map new events of a device over and over. The first of each 2,048
+    /// commands maps the device, again from the second time on, which unmaps its events.
+    pub fn rounds_of_new(
+        mut self,
+        alloc: Global,
+        dev: DeviceId,
+        icid: u16,
+    ) -> Result<Rounds, AllocError> {
+        let mut rounds = Rounds::none(alloc);
+        self.write(&mut rounds.before, &mapd_wide(dev, NEW_BITS))?;
+        for ev in 1..QUEUE_PLACES {
+            let intid = Intid(FIRST_LPI + ev);
+            self.write(&mut rounds.before, &mapti(dev, EventId(ev), intid, icid))?;
+        }
+        self.go_round(&mut rounds.calls)?;
         Ok(rounds)
     }
 
@@ -174,6 +212,11 @@ impl Queue {
     // Has the translator carry out what is in so many places.
     fn go_on(&mut self, asks: &mut Vec<Ask>, places: u32) -> Result<(), AllocError> {
         self.place = (self.place % QUEUE_BYTES + 32 * u64::from(places)) % QUEUE_BYTES;
+        self.carry_out(asks, places)
+    }
+
+    // Has the translator carry out what was written last, so many commands.
+    fn carry_out(&self, asks: &mut Vec<Ask>, places: u32) -> Result<(), AllocError> {
         self.tell(asks)?;
         for _ in 0..places {
             asks.push(Ask::Step { its: self.its })?;

@@ -23,6 +23,14 @@ impl Latencies {
         Ok(())
     }
 
+    /// And of those of others.
+    pub fn add(&mut self, others: &Latencies) -> Result<(), AllocError> {
+        for spent in others.nanoseconds.as_slice() {
+            self.nanoseconds.push(*spent)?;
+        }
+        Ok(())
+    }
+
     /// How many calls there are.
     pub fn count(&self) -> usize {
         self.nanoseconds.len()

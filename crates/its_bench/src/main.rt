@@ -2,8 +2,9 @@
 //!
 //! - Without words: a few calls of each kind, and the trials with fewer calls.
 //! - `time COUNT [NAME]` prints how many nanoseconds a call took, of each kind or of the one named.
-//! - `beside COUNT [NAME]` prints how long so many signals took beside a thread that makes other
-//!   calls all the time: the middle one, the 99th and the 99.9th of a hundred, and the longest.
+//! - `beside COUNT [NAME]` prints how long a signal took beside a thread that makes other calls
+//!   all the time: the middle one, the 99th and the 99.9th of a hundred, and the longest; and how
+//!   many signals and others there were a second. One, two and four threads make so many each.
 //! - `many COUNT [NAME]` prints how many nanoseconds a call took on a machine of 16 processors and
 //!   on one of 512.
 //! - `stress COUNT [NAME]`: so many calls of threads beside one that changes what they meet, of
@@ -17,6 +18,7 @@ mod asks;
 mod beside;
 mod chance;
 mod copying;
+mod course;
 mod guest;
 mod latencies;
 mod machine;
@@ -36,9 +38,9 @@ mod trials;
 mod turning;
 
 use actors::Counts;
-use beside::{BESIDE, time_beside};
+use beside::{BESIDE, Beside, SIGNALLING};
+use course::{Found, time_beside};
 use its_types::MOST_VCPUS;
-use latencies::Latencies;
 use many::{MANY, Many, SIZES, time_many};
 use measure::Lap;
 use play::{Mapped, play};
@@ -87,25 +89,33 @@ fn print_times<R: Clock + Print + AllocGlobal + Threads + Wait + Sync>(
     Ok(())
 }
 
-// Prints what signals took, of those in rising order.
-fn print_latencies<R: Print>(rt: &R, name: &str, latencies: &Latencies) -> io::Result<()> {
+// Prints what signals took, and how many there were a second beside how many other calls.
+fn print_found<R: Print>(rt: &R, name: &str, mut found: Found) -> io::Result<()> {
+    found.latencies.sort();
+    let latencies = &found.latencies;
     let (half, most) = (latencies.at(500), latencies.most());
     let (nearly, all) = (latencies.at(990), latencies.at(999));
-    println!(rt; "{name} p50 {half} p99 {nearly} p99.9 {all} most {most} ns")
+    let (rate, others) = (found.signals.rate(), found.others.rate());
+    println!(rt;
+        "{name} p50 {half} p99 {nearly} p99.9 {all} most {most} ns rate {rate} others {others} a second"
+    )
 }
 
-// Sends signals beside a thread of each kind or of the one with this name, and prints what they
-// took.
+// Sends signals by so many threads beside one of each kind, or those of the row with this name, and
+// prints what they took.
 fn print_beside<R: Clock + Print + AllocGlobal + Threads + Wait + Sync>(
     rt: &R,
     count: u32,
     only: Option<&str>,
 ) -> io::Result<()> {
     for (name, beside) in BESIDE {
-        if only.is_none_or(|only| only == name) {
-            let mut latencies = time_beside(rt, rt.alloc(), beside, count)?;
-            latencies.sort();
-            print_latencies(rt, name, &latencies)?;
+        for (threads, end) in SIGNALLING {
+            let name = format!(in rt.alloc(); "{name}{end}")?;
+            let wanted = only.is_none_or(|only| only == name.as_str());
+            if wanted && beside.is_apart(threads) {
+                let found = time_beside(rt, rt.alloc(), beside, threads, count)?;
+                print_found(rt, &name, found)?;
+            }
         }
     }
     Ok(())
@@ -144,6 +154,22 @@ fn print_count<R: Print>(rt: &R, name: &str, calls: u64) -> io::Result<()> {
     println!(rt; "{name}: {calls} calls")
 }
 
+// Sends a few signals by each number of threads beside one of a kind, and prints how many.
+fn print_counts_beside<R: Clock + Print + AllocGlobal + Threads + Wait + Sync>(
+    rt: &R,
+    name: &str,
+    beside: Beside,
+) -> io::Result<()> {
+    for (threads, end) in SIGNALLING {
+        if beside.is_apart(threads) {
+            let found = time_beside(rt, rt.alloc(), beside, threads, FEW)?;
+            let name = format!(in rt.alloc(); "{name}{end}")?;
+            print_count(rt, &name, found.latencies.count() as u64)?;
+        }
+    }
+    Ok(())
+}
+
 // Makes a few calls of each kind, and prints how many.
 fn print_counts<R: Clock + Print + AllocGlobal + Threads + Wait + Sync>(rt: &R) -> io::Result<()> {
     for (name, times) in ALL {
@@ -151,8 +177,7 @@ fn print_counts<R: Clock + Print + AllocGlobal + Threads + Wait + Sync>(rt: &R) 
         print_count(rt, name, lap.calls)?;
     }
     for (name, beside) in BESIDE {
-        let latencies = time_beside(rt, rt.alloc(), beside, FEW)?;
-        print_count(rt, name, latencies.count() as u64)?;
+        print_counts_beside(rt, name, beside)?;
     }
     for (name, many) in MANY {
         let lap = time_many(rt, rt.alloc(), many, MOST_VCPUS, FEW)?;

@@ -40,6 +40,11 @@ impl Lap {
         }
     }
 
+    /// How many calls were made a second.
+    pub fn rate(&self) -> u128 {
+        u128::from(self.calls).saturating_mul(1_000_000_000) / self.spent.as_nanos().max(1)
+    }
+
     /// How many tenths of a nanosecond a call took.
     pub fn tenths(&self) -> u128 {
         self.spent.as_nanos().saturating_mul(10) / u128::from(self.calls.max(1))

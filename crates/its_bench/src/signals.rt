@@ -29,7 +29,8 @@ pub const FIRST: DeviceId = DeviceId(16);
 /// The second of them.
 pub const SECOND: DeviceId = DeviceId(32);
 
-const EVENTS: u32 = 16;
+/// How many events each has.
+pub const EVENTS: u32 = 16;
 
 /// The calls that map the devices of a translator.
 pub fn map_devices(alloc: Global, its: u8) -> Result<(Vec<Ask>, Queue), AllocError> {
@@ -47,15 +48,15 @@ pub fn map_devices(alloc: Global, its: u8) -> Result<(Vec<Ask>, Queue), AllocErr
     Ok((asks, queue))
 }
 
-// A device's events, in the collection of its number.
-fn map_device(
+/// A device's events, in the collection of its number.
+pub fn map_device(
     asks: &mut Vec<Ask>,
     queue: &mut Queue,
     its: u8,
     dev: DeviceId,
     number: u16,
 ) -> Result<(), AllocError>
-    requires { number < 4 }
+    requires { number < 8 }
 {
     queue.run(asks, &mapd(its, dev, number))?;
     for ev in 0..EVENTS {

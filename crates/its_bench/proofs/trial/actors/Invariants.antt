@@ -1,4 +1,4 @@
-use Rattle.std.specs.Prelude.{◌≤◌, ◌+◌, length}
+use Rattle.std.specs.Prelude.{◌≤◌, ◌+◌}
 use Rattle.std.specs.List.{AllByRecursion}
 use Rattle.its_turns.specs.Machines.{view}
 use Rattle.its_bench.specs.Ready.{IsReady, IsRoot}
