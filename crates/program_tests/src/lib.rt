@@ -13,6 +13,8 @@ mod doorbell_tests;
 #[cfg(test)]
 mod draw_tests;
 #[cfg(test)]
+mod fit_tests;
+#[cfg(test)]
 mod generated_tests;
 #[cfg(test)]
 mod gicr_tests;

@@ -5,7 +5,7 @@ use std::test::Fail;
 
 const REFUSED: Result<Asked, WordsError> = Err(WordsError::Refused);
 
-const ROWS: [(&str, Result<Asked, WordsError>); 22] = [
+const ROWS: [(&str, Result<Asked, WordsError>); 27] = [
     ("its run", Ok(Asked::Run)),
     ("its check --", Ok(Asked::Check)),
     (
@@ -34,6 +34,16 @@ const ROWS: [(&str, Result<Asked, WordsError>); 22] = [
     ("its gen 20001 1", REFUSED),
     ("its gen 1 +4", REFUSED),
     ("its gen 01 4", REFUSED),
+    ("its fit", Ok(Asked::Fit { calls: 100_000 })),
+    (
+        "its fit -- 1000000000",
+        Ok(Asked::Fit {
+            calls: 1_000_000_000,
+        }),
+    ),
+    ("its fit 1000000001", REFUSED),
+    ("its fit 0", REFUSED),
+    ("its fit 1 2", REFUSED),
 ];
 
 // What the words of a line ask for.
