@@ -516,7 +516,7 @@ uint32_t its_list_collections(struct its_handle *handle, uint32_t from,
  * Every call that answers ITS_DONE has a place, which it tells: all calls of the machine's passes are one
  * history, counted from 0, in which each is answered as by a machine of one caller that makes the calls of
  * the places before it. A call's place is after those of all calls that its pass has made before it. The
- * last seven only look, and are no calls of the history.
+ * last eight only look, and are no calls of the history.
  *
  * No call waits. Where another pass has a part that it needs (the maps, guest memory, a shard of the cache,
  * one of a processor's two parts), or makes a call meanwhile, it answers ITS_BUSY: nothing happened, and the
@@ -611,7 +611,7 @@ uint32_t its_pass_save(struct its_pass *pass, uint64_t *place, struct its_save_f
  * how many calls the history has, and what is told is so after just these. ITS_SPENT isn't answered, and
  * ITS_BUSY only where another pass has a part that is needed: the maps, of its_pass_event also what is
  * pending at the target; of its_pass_pending and its_pass_stored_lpi_registers one of the processor's two
- * alone; of its_pass_written all but the cache. ITS_HANDLE.
+ * alone; of its_pass_needs and its_pass_written all but the cache. ITS_HANDLE.
  */
 uint32_t its_pass_event(struct its_pass *pass, uint32_t device, uint32_t event, uint64_t *place,
                         struct its_event_out *out);
@@ -623,6 +623,13 @@ uint32_t its_pass_pending(struct its_pass *pass, uint32_t vcpu, uint64_t *place,
 /* As its_stored_lpi_registers. ITS_RANGE. */
 uint32_t its_pass_stored_lpi_registers(struct its_pass *pass, uint32_t vcpu, uint64_t *place,
                                        struct its_redistributor_in *out);
+
+/*
+ * As its_needs. It stays so until the step, unless another pass steps, saves, or writes registers or
+ * memory meanwhile: a step at the place that is told here reads just these stretches. ITS_NO_MEMORY.
+ */
+uint32_t its_pass_needs(struct its_pass *pass, uint64_t *place, struct its_stretch_out *list,
+                        size_t list_len, uint64_t *count);
 
 /*
  * As its_written. Where its_pass_save was done at place P, and this tells P + 1, these are the tables that

@@ -4,3 +4,4 @@ pub mod Reading
 pub mod Seen
 pub mod Leading
 pub mod SeenWhole
+pub mod Needing

@@ -8,7 +8,8 @@ use Rattle.its_types.specs.declared.machine.Part.{Part}
 use Rattle.its_types.specs.declared.machine.Placed.{Placed}
 use Rattle.its_types.specs.declared.machine.Word.{Word}
 use Rattle.its_plain.specs.History.{after, IsLegal}
-use Rattle.its_plain.specs.Plain.{Plain, Translator, Redistributor, PendState, ConfState, conf_of, pend_of, no_translator, no_redistributor, maps_of, redistributor}
+use Rattle.its_plain.specs.Plain.{Plain, Translator, Redistributor, PendState, ConfState, conf_of, pend_of}
+use Rattle.its_plain.specs.Plain.{no_translator, no_redistributor, maps_of, redistributor}
 use Rattle.its_plain.specs.declared.call.Entry.{Entry}
 use Rattle.its_steps.specs.Contents.{Content, Held}
 use Rattle.its_steps.specs.MayCommit.{IsRight}

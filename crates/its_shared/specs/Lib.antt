@@ -1,5 +1,6 @@
 pub mod Answers
 pub mod Asked
+pub mod Besides
 pub mod Knowing
 pub mod Lending
 pub mod Making

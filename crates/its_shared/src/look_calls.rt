@@ -6,6 +6,7 @@ ghost use Rattle.its_numbers.specs.Events.{event_out};
 ghost use Rattle.its_numbers.specs.Mapped.{collections_from, devices_from, mappings_from};
 ghost use Rattle.its_numbers.specs.Stored.{stored};
 ghost use Rattle.its_plain.specs.Plain.{maps_of, pending_of};
+ghost use Rattle.its_shared.specs.Besides.{needed};
 ghost use Rattle.its_shared.specs.Knowing.{has_vcpu};
 ghost use Rattle.its_shared.specs.Seeing.{Shows, all_told, first_told, numbers_told};
 ghost use Rattle.its_shared.specs.Seeing.{written as tables};
@@ -13,7 +14,8 @@ ghost use Rattle.its_shared.specs.Telling.{InPass, machine_of};
 ghost use Rattle.step_views.specs.Destinations.{destination};
 
 use crate::looks::{
-    collections, devices, event as look_event, mappings, pending, stored_lpi_registers, written,
+    collections, devices, event as look_event, mappings, needs, pending, stored_lpi_registers,
+    written,
 };
 use crate::pass::Pass;
 use its_numbers::{
@@ -115,6 +117,29 @@ pub extern "C" fn its_pass_written(
         return HANDLE;
     }
     written(pass.lent(), alloc, place, list, count)
+}
+
+/// The stretches of guest memory that the next step reads: as many as the list takes, whose rest
+/// stays, and how many there are.
+#[unsafe(no_mangle)]
+pub extern "C" fn its_pass_needs(
+    pass: &mut Pass,
+    alloc: Global,
+    place: &mut u64,
+    list: &mut [StretchOut],
+    count: &mut u64,
+) -> u32
+    ensures empty { pass.old.known ≡ None → (result ≡ codes.handle)
+        × (place.new ≡ place.old) × (list.new ≡ list.old) × (count.new ≡ count.old) }
+    ensures kept { machine_of pass.new ≡ machine_of pass.old }
+    ensures told { InPass pass.old pass.new (λ k l. Shows (Unit {0})
+        (all_told needed)
+        k l result place.old place.new (list.old, count.old) (list.new, count.new)) }
+{
+    if pass.is_empty() {
+        return HANDLE;
+    }
+    needs(pass.lent(), alloc, place, list, count)
 }
 
 /// The mapped devices from a DeviceID on, by rising DeviceID: as many as the list takes, whose rest

@@ -1,10 +1,12 @@
 //! What a pass sees of the machine's state: none of it is a call of the history.
 use crate::look_calls::{
     its_pass_event, its_pass_list_collections, its_pass_list_devices, its_pass_list_events,
-    its_pass_pending, its_pass_stored_lpi_registers, its_pass_written,
+    its_pass_needs, its_pass_pending, its_pass_stored_lpi_registers, its_pass_written,
 };
 use crate::making::its_pass_free;
 use crate::pass::Pass;
+use crate::register_calls::its_pass_write_register;
+use crate::step_calls::its_pass_write_memory;
 use crate::tests::{drive, shared, signalled};
 use its_numbers::{
     CollectionOut, DONE, DeviceOut, EventOut, HANDLE, MappingOut, RANGE, RedistributorIn,
@@ -55,6 +57,38 @@ fn events_and_what_is_pending(rt: HostRuntime) {
         its_pass_pending(&mut root, alloc, 2, &mut place, &mut list, &mut count),
         RANGE
     );
+    assert_eq!(rt; its_pass_free(&mut root, alloc), DONE);
+}
+
+// An INV of event 2 of device 7 reads the LPI's byte, which both processors have in one table.
+#[test]
+fn what_the_next_step_reads(rt: HostRuntime) {
+    let alloc = rt.alloc();
+    let mut root = Pass::empty(alloc);
+    assert_eq!(rt; shared(alloc, &mut root), DONE);
+    assert_eq!(rt; drive(&mut root), (3, 20));
+    let (mut place, mut count) = (99, 99);
+    let mut list = [StretchOut {
+        address: 9,
+        length: 9,
+    }; 3];
+    assert_eq!(rt;
+        its_pass_needs(&mut root, alloc, &mut place, &mut list, &mut count),
+        DONE
+    );
+    assert_eq!(rt; (place, count, list[0].length), (21, 0, 9));
+    for (address, word) in [(0x8002_0060, 0x7_0000_000c), (0x8002_0068, 2)] {
+        let word: u64 = word;
+        its_pass_write_memory(&mut root, address, &word.to_le_bytes(), &mut place);
+    }
+    its_pass_write_register(&mut root, 0x88, 8, 0x80, &mut place);
+    assert_eq!(rt;
+        its_pass_needs(&mut root, alloc, &mut place, &mut list, &mut count),
+        DONE
+    );
+    assert_eq!(rt; (place, count, list[2].length), (24, 2, 9));
+    assert_eq!(rt; (list[0].address, list[0].length), (0x8002_0060, 32));
+    assert_eq!(rt; (list[1].address, list[1].length), (0x8003_0000, 1));
     assert_eq!(rt; its_pass_free(&mut root, alloc), DONE);
 }
 

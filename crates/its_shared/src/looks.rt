@@ -5,6 +5,7 @@ ghost use Rattle.its_numbers.specs.Events.{event_out};
 ghost use Rattle.its_numbers.specs.Mapped.{collections_from, devices_from, mappings_from};
 ghost use Rattle.its_numbers.specs.Stored.{stored};
 ghost use Rattle.its_plain.specs.Plain.{maps_of, pending_of};
+ghost use Rattle.its_shared.specs.Besides.{needed};
 ghost use Rattle.its_shared.specs.Knowing.{has_vcpu};
 ghost use Rattle.its_shared.specs.Seeing.{Shows, all_told, first_told, numbers_told};
 ghost use Rattle.its_shared.specs.Seeing.{unseen_code, written as tables};
@@ -104,6 +105,26 @@ pub fn written(
         (list.old, count.old) (list.new, count.new) }
 {
     match port.written(alloc, list) {
+        Ok(placed) => counted(placed, place, count),
+        Err(unseen) => number_of(unseen),
+    }
+}
+
+/// The stretches of guest memory that the next step reads.
+pub fn needs(
+    port: &mut Port,
+    alloc: Global,
+    place: &mut u64,
+    list: &mut [StretchOut],
+    count: &mut u64,
+) -> u32
+    ensures desc { port.new.desc ≡ port.old.desc }
+    ensures told { Shows (Unit {0})
+        (all_told needed)
+        port.old port.new result place.old place.new
+        (list.old, count.old) (list.new, count.new) }
+{
+    match port.needs(alloc, list) {
         Ok(placed) => counted(placed, place, count),
         Err(unseen) => number_of(unseen),
     }

@@ -4,6 +4,7 @@ ghost use Rattle.std.specs.Prelude.{◌≡◌};
 
 use crate::event_look::try_event;
 use crate::mapped_looks::{try_collections, try_devices, try_mappings};
+use crate::needs_look::try_needs;
 use crate::pending_look::try_pending;
 use crate::port::Port;
 use crate::stored_look::try_stored;
@@ -19,6 +20,7 @@ impl Port {
     ghost use Rattle.its_numbers.specs.Mapped.{collections_from, devices_from, mappings_from};
     ghost use Rattle.its_numbers.specs.Stored.{stored};
     ghost use Rattle.its_plain.specs.Plain.{maps_of, pending_of};
+    ghost use Rattle.its_shared.specs.Besides.{needed};
     ghost use Rattle.its_shared.specs.Knowing as spec;
     ghost use Rattle.its_shared.specs.Seeing.{ListsAll, ListsFirst, ListsNumbers, Sees, written};
     ghost use Rattle.step_views.specs.Destinations.{destination};
@@ -70,6 +72,16 @@ impl Port {
         ensures only { OnErr result (list.new ≡ list.old) }
     {
         try_written(alloc, &self.machine, &mut self.pass, list)
+    }
+
+    /// The stretches of guest memory that the next step reads.
+    pub fn needs(&mut self, alloc: Global, list: &mut [StretchOut]) -> Result<Placed<u64>, Unseen>
+        ensures desc { self.new.desc ≡ self.old.desc }
+        ensures seen { Sees (Unit {0}) (λ u n. ListsAll (needed u) list.old list.new n)
+            self.old.view self.new.view result }
+        ensures only { OnErr result (list.new ≡ list.old) }
+    {
+        try_needs(alloc, &self.machine, &mut self.pass, list)
     }
 
     /// The mapped devices from a DeviceID on.

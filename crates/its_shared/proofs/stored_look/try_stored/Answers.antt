@@ -35,7 +35,8 @@ returns-clause-seen c =
     let right = one_right v w x z here (content.Conf p) taken c.look-word.result looks c.put.ensures.view in
     let machine = one_machine v w x z here (content.Conf p) taken c.look-word.result looks c.put.ensures.view in
     let on : c.are_programmed.result ≡ u.layout.gicr =
-    c.are_programmed.ensures ∙ ap (λ (l : Layout). l.gicr) (c.desc.ensures.layout ∙ (sym (ap (λ (s : Setup). s.start.layout) c.requires.of.1) ∙ machine.layout)) in
+    c.are_programmed.ensures
+    ∙ ap (λ (l : Layout). l.gicr) (c.desc.ensures.layout ∙ (sym (ap (λ (s : Setup). s.start.layout) c.requires.of.1) ∙ machine.layout)) in
     let bases : c.bases.result.now ≡ (redistributor u c.args.vcpu.0).bases =
     c.bases.ensures ∙ (ap (λ (q : Conf). q.bases) c.deref.ensures ∙ sym (ap (λ (s : ConfState). s.bases) (conf_is u c.args.vcpu.0 p right))) in
     let values = c.values_of-values.ensures ∙ ap (λ (b : Bases). values_of b) bases in (
