@@ -43,16 +43,20 @@ unsafe impl Sync for Ports {}
 
 // Tries over and over, as the machine that threads share does.
 fn until<T>(mut tried: impl FnMut() -> Tried<T>) -> T {
+    let mut attempt = 0;
     loop {
         match tried() {
             Tried::Done(answer) => return answer,
             Tried::Busy => {
-                pause();
-                thread::yield_now();
+                pause(attempt);
+                if attempt >= 3 {
+                    thread::yield_now();
+                }
             }
-            Tried::Raced => pause(),
+            Tried::Raced => pause(attempt),
             Tried::Miss => panic!("not mapped"),
         }
+        attempt += 1;
     }
 }
 
