@@ -30,6 +30,7 @@ as_checked input leg place text status.Spent other h = h
 as_checked input leg place text status.TooLong other h = h
 as_checked input leg place text status.TraceDiffers other h = h
 as_checked input leg place text status.BadTrace other h = h
+as_checked input leg place text status.Undecided other h = h
 
 -- ---- of a source
 
@@ -47,6 +48,7 @@ place_causes leg place told rose input status.Spent text was h = said_causes tol
 place_causes leg place told rose input status.TooLong text was h = said_causes told rose input status.TooLong text was h
 place_causes leg place told rose input status.TraceDiffers text was h = said_causes told rose input status.TraceDiffers text was h
 place_causes leg place told rose input status.BadTrace text was h = said_causes told rose input status.BadTrace text was h
+place_causes leg place told rose input status.Undecided text was h = said_causes told rose input status.Undecided text was h
 
 -- the status is that of a check
 pub place_checks : (leg place : ℕ) (told : Option (List ℕ)) (rose : Type 0) (s : Status) (text : List ℕ) → PlaceCauses leg place told rose s text
@@ -63,3 +65,4 @@ place_checks leg place told rose status.Spent text h = (text, h)
 place_checks leg place told rose status.TooLong text h = (text, h)
 place_checks leg place told rose status.TraceDiffers text h = (text, h)
 place_checks leg place told rose status.BadTrace text h = (text, h)
+place_checks leg place told rose status.Undecided text h = (text, h)
