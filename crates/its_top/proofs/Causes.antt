@@ -1,5 +1,5 @@
 -- What a status says, by what the words are and by what was read.
-use Rattle.std.proofs.Common.{◌≡◌, ◌⊎◌, ℕ, ◌<◌, ◌≤◌, List, length, Option, Some, None, Result, Ok, Err, refl, sym, subst, inl, inr, arith}
+use Rattle.std.proofs.Common.{◌≡◌, ◌⊎◌, ℕ, ◌+◌, ◌-◌, ◌<◌, ◌≤◌, List, length, Option, Some, None, Result, Ok, Err, refl, sym, subst, inl, inr, arith}
 use Rattle.its_plain.specs.Described.{IsFirstState, IsRefused}
 use Rattle.its_plain.specs.Plain.{Plain}
 use Rattle.its_plain.specs.declared.desc.DescFault.{DescFault}
@@ -10,7 +10,7 @@ use Rattle.its_answers.specs.Legs.{AllEnd}
 use Rattle.its_words.specs.Help.{help_text, version_text}
 use Rattle.its_words.specs.Words.{asked_of}
 use Rattle.its_words.specs.declared.words.Asked.{Asked}
-use Rattle.its_words.specs.declared.words.Asked.TheVariants.{Run, Check, Gen, Fit, Explain, Draw, Help, Version}
+use Rattle.its_words.specs.declared.words.Asked.TheVariants.{Run, Check, Gen, Fit, At, Explain, Draw, Help, Version}
 use Rattle.its_answers.specs.Checked.{CheckCauses}
 use Rattle.its_top.specs.Its.{Causes, WordsCauses, AskedCauses, IsDecided, IsRunDecided, IsCheckDecided, AskedDecides, ReadDecides, TextCauses}
 use Rattle.its_answers.specs.Its.{RunCauses, IsScript, OfScript, IsReport, IsMigrationRefusal, IsSpentReport, ExplainCauses}
@@ -23,6 +23,8 @@ use Rattle.its_answers.proofs.Explained.{as_run, as_check}
 use Rattle.its_draw.specs.Draws.{DrawCauses}
 use Rattle.fit_answers.specs.FitSays.{FitCauses}
 use Rattle.its_draw.proofs.Said.{drawn_checks}
+use Rattle.report_places.specs.Says.{PlaceCauses}
+use Rattle.report_places.proofs.Said.{place_checks}
 use Rattle.its_top.proofs.Fits.{fit_decided}
 use Rattle.its_answers.proofs.Once.{same_ok, not_both, first_once, made_once, too_short}
 use Rattle.its_top.proofs.Endings.{ends_well, ends_spent, ends_refused, all_end_well}
@@ -223,6 +225,11 @@ explain_decided input rose s text calm h = go (check_of input) refl
 draw_decided : (input : List ℕ) (rose : Type 0) (s : Status) (text : List ℕ) → ¬ rose → DrawCauses (Some input) rose s text → IsCheckDecided input s
 draw_decided input rose s text calm h = let c = drawn_checks (Some input) rose s text h in check_decided input rose s c.0 calm c.1
 
+place_decided : (leg place : ℕ) (input : List ℕ) (rose : Type 0) (s : Status) (text : List ℕ) → ¬ rose → PlaceCauses leg place (Some input) rose s text
+    → IsCheckDecided input s
+place_decided leg place input rose s text calm h =
+    let c = place_checks leg place (Some input) rose s text h in check_decided input rose s c.0 calm c.1
+
 pub decided : (words : List (List ℕ)) (told : Option (List ℕ)) (rose : Type 0) (s : Status) (text : List ℕ) → ¬ rose → Causes words told rose s text
     → IsDecided words told s
 decided words told rose s text calm h = go (asked_of words) h
@@ -233,6 +240,8 @@ decided words told rose s text calm h = go (asked_of words) h
     go (Some Check) h = λ input tells. check_decided input rose s text calm (subst (λ (o : Option (List ℕ)). CheckCauses o rose s text) tells h)
     go (Some (Gen signals threads)) h = gen_end signals threads s text h
     go (Some (Fit calls)) h = λ input tells. fit_decided calls input rose s text calm (subst (λ (o : Option (List ℕ)). FitCauses calls o rose s text) tells h)
+    go (Some (At place leg)) h = λ input tells. place_decided (leg - 1) (place + 1) input rose s text calm
+        (subst (λ (o : Option (List ℕ)). PlaceCauses (leg - 1) (place + 1) o rose s text) tells h)
     go (Some Explain) h = λ input tells. explain_decided input rose s text calm
         (subst (λ (o : Option (List ℕ)). ExplainCauses o rose s text) tells h)
     go (Some Draw) h = λ input tells. draw_decided input rose s text calm (subst (λ (o : Option (List ℕ)). DrawCauses o rose s text) tells h)
@@ -273,6 +282,7 @@ no_write_fault words told rose s text h e = go (asked_of words) (subst (λ (t : 
     go (Some Check) h = h
     go (Some (Gen signals threads)) h = h
     go (Some (Fit calls)) h = h.1.1.says
+    go (Some (At place leg)) h = h
     go (Some Explain) h = h
     go (Some Draw) h = h
     go (Some Help) h = h

@@ -17,6 +17,8 @@ use Rattle.its_answers.proofs.Causes.{read_causes, said_causes}
 use Rattle.its_answers.proofs.Explained as explained
 use Rattle.its_draw.specs.Draws.{DrawCauses, DrawSays}
 use Rattle.its_draw.proofs.Said.{drawn_causes}
+use Rattle.report_places.specs.Says.{PlaceCauses, PlaceSays}
+use Rattle.report_places.proofs.Said.{place_causes}
 use Rattle.fit_answers.specs.FitSays.{FitCauses, FitSays}
 use Rattle.fit_answers.proofs.Saying.{fit_causes}
 use Rattle.its_answers.proofs.Told as told_leg
@@ -38,6 +40,10 @@ explain_said told rose input s text was h = explained.explained_causes told rose
 pub fit_said : (told : Option (List ℕ)) (rose : Type 0) (bound : ℕ) (input : List ℕ) (s : Status) (text : List ℕ) → WasRead told input
     → FitSays input bound s text → FitCauses bound told rose s text
 fit_said told rose bound input s text was h = fit_causes told rose bound input s text was h
+
+pub place_said : (leg place : ℕ) (told : Option (List ℕ)) (rose : Type 0) (input : List ℕ) (s : Status) (text : List ℕ) → WasRead told input
+    → PlaceSays input leg place s text → PlaceCauses leg place told rose s text
+place_said leg place told rose input s text was h = place_causes leg place told rose input s text was h
 
 pub draw_said : (told : Option (List ℕ)) (rose : Type 0) (input : List ℕ) (s : Status) (text : List ℕ) → WasRead told input → DrawSays input s text
     → DrawCauses told rose s text

@@ -1,5 +1,5 @@
 -- What the command prints, and why.
-use Rattle.std.specs.Prelude.{◌≡◌, ◌⊎◌, ℕ, ◌<◌, ◌≤◌, List, length, codes, Option, Some, None, Result, Ok, Err}
+use Rattle.std.specs.Prelude.{◌≡◌, ◌⊎◌, ℕ, ◌+◌, ◌-◌, ◌<◌, ◌≤◌, List, length, codes, Option, Some, None, Result, Ok, Err}
 use Rattle.its_plain.specs.Plain.{Plain}
 use Rattle.its_plain.specs.Described.{IsRefused}
 use Rattle.its_plain.specs.Runs.{IsRun, Phase}
@@ -13,7 +13,7 @@ use Rattle.its_top.specs.Streams.{IsAtEnd}
 use Rattle.its_history.specs.declared.trace.Leg.{Leg as LegLines}
 use Rattle.its_words.specs.Words.{asked_of}
 use Rattle.its_words.specs.declared.words.Asked.{Asked}
-use Rattle.its_words.specs.declared.words.Asked.TheVariants.{Run, Check, Gen, Fit, Explain, Draw, Help, Version}
+use Rattle.its_words.specs.declared.words.Asked.TheVariants.{Run, Check, Gen, Fit, At, Explain, Draw, Help, Version}
 use Rattle.its_words.specs.Help.{help_text, version_text}
 use Rattle.its_answers.specs.Legs.{HasPlaces, CanMigrate, AllEnd, all_told}
 use Rattle.trace_check.specs.Verdicts.{copies_of, IsReportOfRun}
@@ -21,6 +21,7 @@ use Rattle.its_answers.specs.Checked.{CheckCauses, IsCheckInput, read_report}
 use Rattle.its_answers.specs.Its.{ExplainCauses, IsScript, RunCauses}
 use Rattle.its_fit.specs.declared.told.Told.{Told}
 use Rattle.its_draw.specs.Draws.{DrawCauses}
+use Rattle.report_places.specs.Says.{PlaceCauses}
 use Rattle.fit_answers.specs.FitSays.{FitCauses, IsBadTold, IsFitInput, IsVerdict}
 use Rattle.its_top.specs.Summarized.{GenCauses}
 use Rattle.its_answers.specs.declared.status.Status.{Status}
@@ -33,6 +34,12 @@ abbrev pub TextCauses : List ℕ → Status → List ℕ → Type 0
 TextCauses same status.Ok text = text ≡ same
 TextCauses same status.Memory text = text ≡ codes "refused memory\n"
 TextCauses same _ text = ⊥
+
+-- ---- places
+
+-- the list after the call at a place, which is counted from 0 as the report's lines are, of a leg, which is counted from 1
+abbrev pub AtCauses : ℕ → ℕ → Option (List ℕ) → Type 0 → Status → List ℕ → Type 0
+AtCauses place leg told rose s text = PlaceCauses (leg - 1) (place + 1) told rose s text
 
 -- ---- words
 
@@ -48,6 +55,7 @@ AskedCauses (Some Run) told rose s text = RunCauses told rose s text
 AskedCauses (Some Check) told rose s text = CheckCauses told rose s text
 AskedCauses (Some (Gen signals threads)) told rose s text = GenCauses signals threads s text
 AskedCauses (Some (Fit calls)) told rose s text = FitCauses calls told rose s text
+AskedCauses (Some (At place leg)) told rose s text = AtCauses place leg told rose s text
 AskedCauses (Some Explain) told rose s text = ExplainCauses told rose s text
 AskedCauses (Some Draw) told rose s text = DrawCauses told rose s text
 AskedCauses (Some Help) told rose s text = TextCauses help_text s text
@@ -63,11 +71,12 @@ abbrev pub AskedReads : Option Asked → Option (List ℕ) → Option (List ℕ)
 AskedReads (Some Run) before now = IsAtEnd before now
 AskedReads (Some Check) before now = IsAtEnd before now
 AskedReads (Some (Fit calls)) before now = IsAtEnd before now
+AskedReads (Some (At place leg)) before now = IsAtEnd before now
 AskedReads (Some Explain) before now = IsAtEnd before now
 AskedReads (Some Draw) before now = IsAtEnd before now
 AskedReads _ before now = now ≡ before
 
--- `run`, `check`, `fit`, `explain` and `draw` read the source to its end, the others read nothing
+-- `run`, `check`, `fit`, `at`, `explain` and `draw` read the source to its end, the others read nothing
 abbrev pub Reads : List (List ℕ) → Option (List ℕ) → Option (List ℕ) → Type 0
 Reads words before now = AskedReads (asked_of words) before now
 
@@ -90,7 +99,7 @@ pub record IsRunDecided (input : List ℕ) (s : Status) : Type 0 where
   pub complete : length input ≤ 16777216 → (script : Script) (first : Plain) → IsScript input script first → HasPlaces script.desc.limits.place_last script.legs
       → CanMigrate first script.legs → Ends s status.Ok
 
--- and that of `check`, which is also that of `draw`
+-- and that of `check`, which is also that of `at` and `draw`
 pub record IsCheckDecided (input : List ℕ) (s : Status) : Type 0 where
   pub too_long : 16777216 < length input → Ends s status.TooLong
   pub script_refused : length input ≤ 16777216 → (fault : ScriptFault) → check_of input ≡ Err fault → Ends s status.ScriptRefused
@@ -128,6 +137,7 @@ AskedDecides (Some Run) told s = (input : List ℕ) → told ≡ Some input → 
 AskedDecides (Some Check) told s = (input : List ℕ) → told ≡ Some input → IsCheckDecided input s
 AskedDecides (Some (Gen signals threads)) told s = Ends s status.Ok
 AskedDecides (Some (Fit calls)) told s = (input : List ℕ) → told ≡ Some input → IsFitDecided input s
+AskedDecides (Some (At place leg)) told s = (input : List ℕ) → told ≡ Some input → IsCheckDecided input s
 AskedDecides (Some Explain) told s = (input : List ℕ) → told ≡ Some input → ReadDecides (check_of input) input s
 AskedDecides (Some Draw) told s = (input : List ℕ) → told ≡ Some input → IsCheckDecided input s
 AskedDecides (Some Help) told s = Ends s status.Ok

@@ -6,7 +6,7 @@ ghost use Rattle.its_io.specs.Count.{Rose};
 ghost use Rattle.its_answers.specs.Checked.{CheckCauses};
 ghost use Rattle.its_draw.specs.Draws.{DrawCauses};
 ghost use Rattle.fit_answers.specs.FitSays.{FitCauses};
-ghost use Rattle.its_top.specs.Its.{Causes, Reads, IsDecided};
+ghost use Rattle.its_top.specs.Its.{AtCauses, Causes, Reads, IsDecided};
 ghost use Rattle.its_answers.specs.Its.{RunCauses, ExplainCauses};
 ghost use Rattle.its_top.specs.Streams.{IsAtEnd};
 ghost use Rattle.its_top.specs.Summarized.{GenCauses};
@@ -24,6 +24,7 @@ use its_draw::say_draw;
 use its_io::{Failed, Sink, Source};
 use its_types::Gate;
 use its_words::{Asked, WordsError, help_text, parse_words, version_text};
+use report_places::say_place;
 use std::alloc::{AllocError, Global};
 use std::sync::Wait;
 use std::thread::Threads;
@@ -68,8 +69,8 @@ pub fn its<R: Threads + Wait + Sync, S: Source, K: Sink, G: Gate + Sync>(
         (Rose (S.faults source.old) (S.faults source.new)) status text
         × Appends (K.held sink.old) (K.held sink.new) (take n text)) }
 
-    // Where it ends well, `run`, `check`, `fit`, `explain` and `draw` have read the source to its
-    // end.
+    // Where it ends well, `run`, `check`, `fit`, `at`, `explain` and `draw` have read the source to
+    // its end.
     ensures to_the_end { result ≡ Status.Ok →
         Reads (map (λ w. string_bytes w) words.now) (S.left source.old) (S.left source.new) }
 
@@ -109,6 +110,7 @@ fn answer_words<R: Threads + Wait + Sync, S: Source, G: Gate + Sync>(
         Ok(Asked::Check) => check_command(alloc, source),
         Ok(Asked::Gen { signals, threads }) => gen_command(rt, alloc, gate, signals, threads),
         Ok(Asked::Fit { calls }) => fit_command(alloc, source, calls),
+        Ok(Asked::At { place, leg }) => at_command(alloc, source, place, leg),
         Ok(Asked::Explain) => explain_command(rt, alloc, gate, source),
         Ok(Asked::Draw) => draw_command(alloc, source),
         Ok(Asked::Help) => Answer::Helped,
@@ -203,6 +205,27 @@ fn fit_command<S: Source>(alloc: Global, source: &mut S, calls: u32) -> Answer
     };
     match say_fit(alloc, &input, calls.into()) {
         Ok(fitted) => Answer::Answered(fitted),
+        Err(AllocError) => Answer::Refused(Status::Memory),
+    }
+}
+
+// What the machine has after the call at a place of a leg, of the report that the source has.
+fn at_command<S: Source>(alloc: Global, source: &mut S, place: u32, leg: u32) -> Answer
+    requires place { place ≤ 1000000000 }
+    requires leg { 1 ≤ leg }
+    ensures caused { AnswerIsCaused
+        (AtCauses place leg (S.left source.old) (Rose (S.faults source.old) (S.faults source.new)))
+        [] result }
+    ensures to_the_end { MayEndWell result → IsAtEnd (S.left source.old) (S.left source.new) }
+{
+    let input = match read_all(alloc, source, LIMIT) {
+        Ok(input) => input,
+        Err(ReadAllError::Memory) => return Answer::Refused(Status::Memory),
+        Err(ReadAllError::Failed) => return Answer::Refused(Status::ReadFault),
+        Err(ReadAllError::TooLong) => return Answer::Refused(Status::TooLong),
+    };
+    match say_place(alloc, &input, leg as usize - 1, place as usize + 1) {
+        Ok(listed) => Answer::Answered(listed),
         Err(AllocError) => Answer::Refused(Status::Memory),
     }
 }

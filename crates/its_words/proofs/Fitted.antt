@@ -107,7 +107,7 @@ from_none (x ∷ xs) = go (bytes_eq x (codes "--")) refl
     go false e =
         let part : outcome (none_met false) (x ∷ xs) ≡ fit_of (x ∷ without_separator xs) = elim (kind x e) [
           | inl v ↦ goes_on (none_met false) (one_met x false) x xs (value_turn fit [] x _ _ 1 v) (value_walk fit [] x _ _ 1 v) ∙ from_one x xs
-          | inr f ↦ stops (none_met false) x xs (faulty_turn fit [] x _ _ 1 f) ∙ no_first x (without_separator xs) f.0
+          | inr f ↦ stops (none_met false) x xs (faulty_turn fit [] x _ _ 1 f) ∙ no_first x (without_separator xs) f.0.0
         ] in part ∙ ap fit_of (kept x xs e)
 
 pub takes_one : (rest : List Text) → cond (is_none (level_fault fit [] nothing_held rest false [])) (asked_of_rows (rows_after fit.rules [] rest)) None ≡ fit_of

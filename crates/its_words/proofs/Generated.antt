@@ -124,7 +124,7 @@ from_one a (x ∷ xs) = go (bytes_eq x (codes "--")) refl
     go false e =
         let part : outcome (one_met a false) (x ∷ xs) ≡ gen_of (a ∷ x ∷ without_separator xs) = elim (kind x e) [
           | inl v ↦ goes_on (one_met a false) (two_met a x false) x xs (value_turn gen [] x _ _ 2 v) (value_walk gen [] x _ _ 2 v) ∙ from_two a x xs
-          | inr f ↦ stops (one_met a false) x xs (faulty_turn gen [] x _ _ 2 f) ∙ no_second a x (without_separator xs) f.0
+          | inr f ↦ stops (one_met a false) x xs (faulty_turn gen [] x _ _ 2 f) ∙ no_second a x (without_separator xs) f.0.0
         ] in part ∙ ap (λ ws. gen_of (a ∷ ws)) (kept x xs e)
 
 from_none : (rest : List Text) → outcome (none_met false) rest ≡ gen_of (without_separator rest)
@@ -138,7 +138,7 @@ from_none (x ∷ xs) = go (bytes_eq x (codes "--")) refl
     go false e =
         let part : outcome (none_met false) (x ∷ xs) ≡ gen_of (x ∷ without_separator xs) = elim (kind x e) [
           | inl v ↦ goes_on (none_met false) (one_met x false) x xs (value_turn gen [] x _ _ 1 v) (value_walk gen [] x _ _ 1 v) ∙ from_one x xs
-          | inr f ↦ stops (none_met false) x xs (faulty_turn gen [] x _ _ 1 f) ∙ no_first x (without_separator xs) f.0
+          | inr f ↦ stops (none_met false) x xs (faulty_turn gen [] x _ _ 1 f) ∙ no_first x (without_separator xs) f.0.0
         ] in part ∙ ap gen_of (kept x xs e)
 
 pub takes_two : (rest : List Text) → cond (is_none (level_fault gen [] nothing_held rest false [])) (asked_of_rows (rows_after gen.rules [] rest)) None ≡ gen_of

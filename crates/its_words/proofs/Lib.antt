@@ -5,6 +5,7 @@ pub mod Turns
 pub mod Bare
 pub mod Generated
 pub mod Fitted
+pub mod Placed
 pub mod Commands
 pub mod Options
 pub mod Parsed

@@ -1,7 +1,7 @@
 -- Numbers in form.
 use Rattle.std.proofs.Common.{◌≡◌, ◌<◌, ◌≤◌, ◌∙◌, ℕ, Bool, true, false, List, [], ◌∷◌, cond, nat_lt, nat_le, Some, None, Result, Ok, Err, slice_index, refl}
-use Rattle.std.proofs.Common.{sym, ap, arith, length, ◌^◌, ◌&&◌}
-use Rattle.std.specs.Str.{all_ascii_digits}
+use Rattle.std.proofs.Common.{sym, ap, arith, length, ◌^◌, ◌&&◌, Option, subst}
+use Rattle.std.specs.Str.{all_ascii_digits, bytes_eq}
 use Rattle.std.specs.Str.Parse.{ParsesUnsigned, digits_value}
 use Rattle.std.specs.Result.{result_ok}
 use Rattle.std.specs.Result.{OkIff}
@@ -11,7 +11,8 @@ use Rattle.std.proofs.lemmas.Bool.Decides.{nat_tests}
 use Rattle.std.proofs.lemmas.Str.Parse.{digits_value-take-le}
 use Rattle.std.specs.Char.{digit_value, is_ascii_digit}
 use Rattle.clap.proofs.WalkLemmas.{both}
-use Rattle.its_words.specs.Words.{number_of}
+use Rattle.its_words.specs.Words.{number_of, number_or_zero_of}
+use Rattle.its_words.proofs.Matches.{differ}
 
 own : IsNumeralModel (λ ds. all_ascii_digits ds ≡ true) (digits_value 10)
 own = numerals_by_value _ tells_all_ascii_digits
@@ -105,3 +106,18 @@ in_range last n text e = first (nat_lt 48 (slice_index text 0)) refl e
         → cond (a && (all_ascii_digits text && nat_le (digits_value 10 text) last)) (Some (digits_value 10 text)) None ≡ Some n → (1 ≤ n) × (n ≤ last)
     first true a e = second (all_ascii_digits text) refl a e
     first false a e = cc
+
+-- ---- from 0
+
+pub no_number_from_0 : (last : ℕ) (text : List ℕ) → bytes_eq text (48 ∷ []) ≡ false → nat_lt 48 (slice_index text 0) ≡ false
+    → None ≡ number_or_zero_of last text
+unfolding number_or_zero_of
+no_number_from_0 last text other e = rw other (no_number last text e)
+
+pub is_zero : (last : ℕ) (text : List ℕ) → text ≡ 48 ∷ [] → Some 0 ≡ number_or_zero_of last text
+unfolding number_or_zero_of
+is_zero last text is = subst (λ (t : List ℕ). Some 0 ≡ number_or_zero_of last t) (sym is) refl
+
+pub is_not_zero : (last : ℕ) (text : List ℕ) (r : Option ℕ) → (text ≡ 48 ∷ [] → ⊥) → r ≡ number_of last text → r ≡ number_or_zero_of last text
+unfolding number_or_zero_of
+is_not_zero last text r other is = rw (differ text (48 ∷ []) other) is

@@ -1,6 +1,6 @@
 -- What a parse says of words.
 use Rattle.std.proofs.Common.{◌≡◌, ◌∙◌, true, false, List, [], ◌∷◌, cond, Option, Some, None, Result, Ok, Err, IsErrAnd, refl, sym, ap, ap₂, subst, inl, inr}
-use Rattle.clap.specs.Words.{App, HasKind, HasMatchesOf, IsAmong, Kinds, Text, fault_of, is_simple, is_simple_and_free, kind_of, subcommand_of}
+use Rattle.clap.specs.Words.{App, HasKind, HasMatchesOf, IsAmong, Kinds, Text, fault_of, is_simple, is_simple_and_free, kind_of, subcommand_of, takes}
 use Rattle.clap.specs.Words.{subcommand_rows_of}
 use Rattle.clap.specs.declared.ArgMatches.{ArgMatches}
 use Rattle.clap.specs.declared.Error.{Error}
@@ -40,6 +40,11 @@ unfolding is_taken
 not_taken a words e same has other =
     let here : HasKind (fault_of its_app words) e = subst (λ x. is_simple_and_free x ≡ true → HasKind (fault_of x words) e) same has free in
     elim here [ inl memory ↦ absurd (other memory) | inr among ↦ some_kind (fault_of its_app words) (kind_of e) among ]
+
+-- nor does the parser's own test take them
+pub passes_none : (a : App) (words : List Text) (e : Error) → a ≡ its_app → (takes a words ≡ true → kind_of e ≡ OutOfMemory)
+    → (kind_of e ≡ OutOfMemory → ⊥) → takes its_app words ≡ true → ⊥
+passes_none a words e same passes other taken = other (passes (subst (λ x. takes x words ≡ true) (sym same) taken))
 
 commands_none : (words : List Text) → is_taken words ≡ false → command_of words ≡ None
 unfolding is_taken parsed

@@ -18,9 +18,13 @@ IsValue s names word = (rows : List Row) (pending : Option (Text × List Text)) 
     → (word_fault s names false idle word (at_word rows pending) ≡ [])
     × (word_met s.rules names false idle position word (at_word rows pending) ≡ (at_word rows pending, value))
 
+-- the word begins as no number does, and is not zero either
+abbrev pub IsNoNumber : Text → Type 0
+IsNoNumber word = (nat_lt 48 (slice_index word 0) ≡ false) × (bytes_eq word (48 ∷ []) ≡ false)
+
 -- there is a fault with the word, which is no number
 abbrev pub IsFaulty : Shape → Names → Text → Type 0
-IsFaulty s names word = (nat_lt 48 (slice_index word 0) ≡ false) × ((rows : List Row) (pending : Option (Text × List Text))
+IsFaulty s names word = IsNoNumber word × ((rows : List Row) (pending : Option (Text × List Text))
     → is_none (word_fault s names false idle word (at_word rows pending)) ≡ false)
 
 module _ (s : Shape) (names : Names) (no_long : (name : Text) → arg_by_long s.rules name ≡ None) (no_short : (x : ℕ) → arg_by_short s.rules x ≡ None) where
@@ -29,7 +33,7 @@ module _ (s : Shape) (names : Names) (no_long : (name : Text) → arg_by_long s.
       → IsValue s names (45 ∷ y ∷ ys) ⊎ IsFaulty s names (45 ∷ y ∷ ys)
   unfolding flags_fault bundle_met
   bundle_kind y ys none plain None first = inl (λ rows pending position. (rw (none, plain, plain, first) refl, rw (none, plain, plain, first) refl))
-  bundle_kind y ys none plain (Some f) first = inr (refl, λ rows pending. rw (none, plain, plain, first, no_short f) refl)
+  bundle_kind y ys none plain (Some f) first = inr ((refl, refl), λ rows pending. rw (none, plain, plain, first, no_short f) refl)
 
   -- a word that begins with one hyphen, or with two
   two_kind : (y : ℕ) (ys : List ℕ) → subcommand_met names idle (45 ∷ y ∷ ys) ≡ None → bytes_eq (45 ∷ y ∷ ys) (45 ∷ 45 ∷ []) ≡ false → (b : Bool) → (y == 45) ≡ b
@@ -39,7 +43,7 @@ module _ (s : Shape) (names : Names) (no_long : (name : Text) → arg_by_long s.
       let is : y ≡ 45 = eqb-true y 45 two in
       let bad : true ≡ false = rw is at other in
       cc
-  two_kind y (z ∷ zs) none other true two = inr (refl, λ rows pending. rw (none, two, no_long _) refl)
+  two_kind y (z ∷ zs) none other true two = inr ((refl, refl), λ rows pending. rw (none, two, no_long _) refl)
 
   hyphen_kind : (xs : List ℕ) → subcommand_met names idle (45 ∷ xs) ≡ None → bytes_eq (45 ∷ xs) (45 ∷ 45 ∷ []) ≡ false → IsValue s names (45 ∷ xs)
       ⊎ IsFaulty s names (45 ∷ xs)

@@ -14,6 +14,10 @@ gen_app = with_rule (with_rule (new_app (codes "gen")) (needed_rule (codes "sign
 abbrev pub fit_app : App
 fit_app = with_rule (new_app (codes "fit")) (record (new_rule (codes "calls")) { action = Some Set })
 
+-- a place has to be there, and a leg may be
+abbrev pub at_app : App
+at_app = with_rule (with_rule (new_app (codes "at")) (needed_rule (codes "place"))) (record (new_rule (codes "leg")) { action = Some Set })
+
 -- a command has to be there, and no word asks for the parser's own help
 abbrev pub bare_app : App
 bare_app =
@@ -26,7 +30,10 @@ running_app = with_subcommand (with_subcommand (with_subcommand bare_app (new_ap
 abbrev pub fitting_app : App
 fitting_app = with_subcommand running_app fit_app.top
 
+abbrev pub placing_app : App
+placing_app = with_subcommand fitting_app at_app.top
+
 abbrev pub its_app : App
 its_app =
-    with_subcommand (with_subcommand (with_subcommand (with_subcommand fitting_app (new_app (codes "explain")).top) (new_app (codes "draw")).top)
+    with_subcommand (with_subcommand (with_subcommand (with_subcommand placing_app (new_app (codes "explain")).top) (new_app (codes "draw")).top)
     (new_app (codes "help")).top) (new_app (codes "version")).top

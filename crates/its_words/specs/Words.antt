@@ -7,7 +7,7 @@ use Rattle.clap.specs.Words.{Row, Text, fault_of, first_of, subcommand_of, subco
 use Rattle.clap.specs.declared.ArgMatches.{ArgMatches}
 use Rattle.its_words.specs.Command.{its_app}
 use Rattle.its_words.specs.declared.words.Asked.{Asked}
-use Rattle.its_words.specs.declared.words.Asked.TheVariants.{Run, Check, Gen, Fit, Explain, Draw, Help, Version}
+use Rattle.its_words.specs.declared.words.Asked.TheVariants.{Run, Check, Gen, Fit, At, Explain, Draw, Help, Version}
 
 -- ---- numbers
 
@@ -16,6 +16,10 @@ unfoldable pub number_of : ℕ → Text → Option ℕ
 number_of last text =
     if nat_lt 48 (slice_index text 0) && (all_ascii_digits text && nat_le (digits_value 10 text) last)
     then Some (digits_value 10 text) else None
+
+-- the same from 0
+unfoldable pub number_or_zero_of : ℕ → Text → Option ℕ
+number_or_zero_of last text = if bytes_eq text (codes "0") then Some 0 else number_of last text
 
 abbrev pub gen_of_numbers : Option ℕ → Option ℕ → Option Asked
 gen_of_numbers (Some n) (Some t) = Some (Gen n t)
@@ -43,6 +47,24 @@ fit_of [] = fit_by None
 fit_of (n ∷ []) = fit_by (Some n)
 fit_of _ = None
 
+-- a leg is counted from 1, and is the first one where no number is said
+abbrev pub leg_of : Option Text → Option ℕ
+leg_of (Some n) = number_of 64 n
+leg_of None = Some 1
+
+abbrev pub at_of_numbers : Option ℕ → Option ℕ → Option Asked
+at_of_numbers (Some place) (Some leg) = Some (At place leg)
+at_of_numbers _ _ = None
+
+-- a place is counted from 0, as the lines of a report are
+abbrev pub at_by : Option Text → Option Text → Option Asked
+at_by place leg = at_of_numbers (option_and_then (number_or_zero_of 1000000000) place) (leg_of leg)
+
+abbrev pub at_of : List Text → Option Asked
+at_of (place ∷ []) = at_by (Some place) None
+at_of (place ∷ leg ∷ []) = at_by (Some place) (Some leg)
+at_of _ = None
+
 -- ---- commands
 
 -- a command that takes no words
@@ -56,10 +78,11 @@ asked_by name words =
     else (if bytes_eq (codes "check") name then alone Check words
     else (if bytes_eq (codes "gen") name then gen_of words
     else (if bytes_eq (codes "fit") name then fit_of words
+    else (if bytes_eq (codes "at") name then at_of words
     else (if bytes_eq (codes "explain") name then alone Explain words
     else (if bytes_eq (codes "draw") name then alone Draw words
     else (if bytes_eq (codes "help") name then alone Help words
-    else (if bytes_eq (codes "version") name then alone Version words else None)))))))
+    else (if bytes_eq (codes "version") name then alone Version words else None))))))))
 
 -- the words without the first `--`, after which no word names an option
 abbrev pub without_separator : List Text → List Text
@@ -108,11 +131,12 @@ asked_in (Some (name, rows)) =
     if bytes_eq name (codes "run") then Some Run
     else (if bytes_eq name (codes "check") then Some Check
     else (if bytes_eq name (codes "fit") then fit_by (first_of (codes "calls") rows)
+    else (if bytes_eq name (codes "at") then at_by (first_of (codes "place") rows) (first_of (codes "leg") rows)
     else (if bytes_eq name (codes "explain") then Some Explain
     else (if bytes_eq name (codes "draw") then Some Draw
     else (if bytes_eq name (codes "help") then Some Help
     else (if bytes_eq name (codes "version") then Some Version
-    else gen_by (first_of (codes "signals") rows) (first_of (codes "threads") rows)))))))
+    else gen_by (first_of (codes "signals") rows) (first_of (codes "threads") rows))))))))
 
 -- the parser finds no fault with the words
 unfoldable pub is_taken : List Text → Bool
@@ -129,6 +153,7 @@ IsInRange Run = Unit {0}
 IsInRange Check = Unit {0}
 IsInRange (Gen n t) = (1 ≤ n) × (n ≤ 20000) × (1 ≤ t) × (t ≤ 63)
 IsInRange (Fit n) = (1 ≤ n) × (n ≤ 1000000000)
+IsInRange (At place leg) = (place ≤ 1000000000) × (1 ≤ leg) × (leg ≤ 64)
 IsInRange Explain = Unit {0}
 IsInRange Draw = Unit {0}
 IsInRange Help = Unit {0}

@@ -2,7 +2,8 @@
 ghost use Rattle.std.specs.Prelude.{◌≡◌, IfOk, codes, false};
 ghost use Rattle.clap.specs.Words.{app_of, rule_of};
 ghost use Rattle.clap.specs.declared.Command.TheViews.{out-Command};
-ghost use Rattle.its_words.specs.Command.{fit_app, fitting_app, gen_app, its_app, needed_rule, running_app};
+ghost use Rattle.its_words.specs.Command.{at_app, fit_app, fitting_app, gen_app, its_app};
+ghost use Rattle.its_words.specs.Command.{needed_rule, placing_app, running_app};
 
 use clap::{Arg, ArgAction, Command};
 use std::alloc::{AllocError, Global};
@@ -15,14 +16,22 @@ pub fn its_command<'a>(alloc: Global) -> Result<Command<'a>, AllocError>
     let draw = Command::new(alloc, "draw");
     let help = Command::new(alloc, "help");
     let version = Command::new(alloc, "version");
-    fitting_command(alloc)?
+    placing_command(alloc)?
         .subcommand(explain)?
         .subcommand(draw)?
         .subcommand(help)?
         .subcommand(version)
 }
 
-// The same with the commands alone that run, check or fit something.
+// The same with the commands alone that run, check or fit something, or list a place.
+fn placing_command<'a>(alloc: Global) -> Result<Command<'a>, AllocError>
+    ensures { IfOk result (λ c. app_of c ≡ placing_app) }
+{
+    let at = at_command(alloc)?;
+    fitting_command(alloc)?.subcommand(at)
+}
+
+// The same without `at`.
 fn fitting_command<'a>(alloc: Global) -> Result<Command<'a>, AllocError>
     ensures { IfOk result (λ c. app_of c ≡ fitting_app) }
 {
@@ -30,7 +39,7 @@ fn fitting_command<'a>(alloc: Global) -> Result<Command<'a>, AllocError>
     running_command(alloc)?.subcommand(fit)
 }
 
-// The same without `fit`.
+// The same without `fit` either.
 fn running_command<'a>(alloc: Global) -> Result<Command<'a>, AllocError>
     ensures { IfOk result (λ c. app_of c ≡ running_app) }
 {
@@ -63,6 +72,16 @@ fn fit_command<'a>(alloc: Global) -> Result<Command<'a>, AllocError>
 {
     let calls = Arg::new(alloc, "calls").action(ArgAction::Set);
     Command::new(alloc, "fit").arg(calls)
+}
+
+// `at` with its place, and a leg that may be left out.
+fn at_command<'a>(alloc: Global) -> Result<Command<'a>, AllocError>
+    ensures app { IfOk result (λ c. app_of c ≡ at_app) }
+    ensures local { IfOk result (λ c. (out-Command c).has_globals ≡ false) }
+{
+    let place = needed(alloc, "place");
+    let leg = Arg::new(alloc, "leg").action(ArgAction::Set);
+    Command::new(alloc, "at").arg(place)?.arg(leg)
 }
 
 // An argument that has to be there.

@@ -5,7 +5,8 @@ ghost use Rattle.std.specs.String.{string_bytes};
 ghost use Rattle.clap.specs.Words.{first_value, found_of, subcommand_of, subcommand_rows_of, takes};
 ghost use Rattle.its_words.specs.Command.{its_app};
 ghost use Rattle.its_words.specs.Words as spec;
-ghost use Rattle.its_words.specs.Words.{asked_in, asked_of, fit_by, gen_by, is_taken, number_of};
+ghost use Rattle.its_words.specs.Words.{asked_in, asked_of, at_by, fit_by, gen_by, is_taken};
+ghost use Rattle.its_words.specs.Words.{number_of, number_or_zero_of};
 ghost use Rattle.its_words.specs.Words.{option_of, or_else_asked, IsInRange, IsMatched};
 ghost use Rattle.its_words.specs.declared.words.WordsError.TheVariants.{NoMemory};
 
@@ -27,6 +28,15 @@ const MOST_CALLS: u32 = 1_000_000_000;
 /// How many calls `fit` tries, where no number says so.
 const FEW_CALLS: u32 = 100_000;
 
+/// The last place that may be asked for: no report has as many lines.
+const LAST_PLACE: u32 = 1_000_000_000;
+
+/// How many legs a script may have.
+const MOST_LEGS: u32 = 64;
+
+/// The leg that is asked for, where no number says so.
+const FIRST_LEG: u32 = 1;
+
 /// A command that the words ask for.
 #[derive(Clone, Copy, Debug, PartialEq, Eq)]
 pub enum Asked {
@@ -38,6 +48,9 @@ pub enum Asked {
     Gen { signals: u32, threads: u32 },
     /// Looks for a history that explains replies, and tries at most so many calls.
     Fit { calls: u32 },
+    /// Lists what the machine has after the call at a place of a report, counted from 0 as its lines
+    /// are, of a leg, counted from 1.
+    At { place: u32, leg: u32 },
     /// Says of a script, or of one with a report, what is wrong with it or what happens.
     Explain,
     /// Draws the report of a run.
@@ -147,6 +160,7 @@ fn read(matches: &ArgMatches) -> Option<Asked>
         "run" => Some(Asked::Run),
         "check" => Some(Asked::Check),
         "fit" => fitting(matches),
+        "at" => listing(matches),
         "explain" => Some(Asked::Explain),
         "draw" => Some(Asked::Draw),
         "help" => Some(Asked::Help),
@@ -180,6 +194,25 @@ fn fitting(matches: &ArgMatches) -> Option<Asked>
     }
 }
 
+// The numbers of `at`.
+fn listing(matches: &ArgMatches) -> Option<Asked>
+    ensures value { result ≡ at_by (first_value (found_of matches.now) (codes "place"))
+        (first_value (found_of matches.now) (codes "leg")) }
+    ensures range { IfSome result IsInRange }
+{
+    let place = number_or_zero(matches.get_str("place")?, LAST_PLACE)?;
+    match matches.get_str("leg") {
+        Some(text) => {
+            let leg = number(text, MOST_LEGS)?;
+            Some(Asked::At { place, leg })
+        }
+        None => Some(Asked::At {
+            place,
+            leg: FIRST_LEG,
+        }),
+    }
+}
+
 // A number from 1 to a last one, of digits without a leading zero.
 fn number(text: &str, last: u32) -> Option<u32>
     ensures value { result ≡ number_of last text.now }
@@ -190,6 +223,17 @@ fn number(text: &str, last: u32) -> Option<u32>
     }
     let number: u32 = text.parse().ok()?;
     if number <= last { Some(number) } else { None }
+}
+
+// The same from 0.
+fn number_or_zero(text: &str, last: u32) -> Option<u32>
+    ensures value { result ≡ number_or_zero_of last text.now }
+    ensures range { IfSome result (λ n. n ≤ last) }
+{
+    match text {
+        "0" => Some(0),
+        _ => number(text, last),
+    }
 }
 
 // Whether the first byte is neither a sign nor a zero.

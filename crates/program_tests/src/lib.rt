@@ -3,6 +3,8 @@
 #![tactic(auto)]
 
 #[cfg(test)]
+mod at_tests;
+#[cfg(test)]
 mod check_tests;
 #[cfg(test)]
 mod command_tests;

@@ -5,7 +5,7 @@ use std::test::Fail;
 
 const REFUSED: Result<Asked, WordsError> = Err(WordsError::Refused);
 
-const ROWS: [(&str, Result<Asked, WordsError>); 27] = [
+const ROWS: [(&str, Result<Asked, WordsError>); 36] = [
     ("its run", Ok(Asked::Run)),
     ("its check --", Ok(Asked::Check)),
     (
@@ -18,6 +18,15 @@ const ROWS: [(&str, Result<Asked, WordsError>); 27] = [
     ("its", REFUSED),
     ("its explain", Ok(Asked::Explain)),
     ("its draw", Ok(Asked::Draw)),
+    ("its at 0", Ok(Asked::At { place: 0, leg: 1 })),
+    ("its at 17 64", Ok(Asked::At { place: 17, leg: 64 })),
+    ("its at -- 17 2 3", REFUSED),
+    ("its at 17 2 --", Ok(Asked::At { place: 17, leg: 2 })),
+    ("its at", REFUSED),
+    ("its at 00", REFUSED),
+    ("its at -1", REFUSED),
+    ("its at 17 0", REFUSED),
+    ("its at 17 65", REFUSED),
     ("its -- help", REFUSED),
     ("its help", Ok(Asked::Help)),
     ("its help run", REFUSED),
