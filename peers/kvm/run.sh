@@ -7,6 +7,7 @@
 #        run.sh differences DIR PROGRAM [OPTIONS]   the smallest script that shows each difference, on each kernel
 #        run.sh threads DIR PROGRAM [OPTIONS]       rounds of calls that threads make beside each other
 #        run.sh shrink PROGRAM CONSOLE SEED         such a round that fits nowhere, made smaller
+#        run.sh plant PROGRAM CONSOLE..             such rounds with one answer changed in each
 set -eu
 
 here=$(dirname "$(realpath "$0")")
@@ -77,6 +78,6 @@ case "${1:-}" in
 fetch) mkdir -p "$2" && fetch "$(realpath "$2")" ;;
 build) mkdir -p "$2" && build "$(realpath "$2")" ;;
 play | restore | back | way | differences | threads) exec python3 "$here/$1.py" "$(realpath "$2")" "$(realpath "$3")" "${@:4}" ;;
-shrink) exec python3 "$here/shrink.py" "$(realpath "$2")" "${@:3}" ;;
-*) sed -n '4,10s/^# //p' "$0" >&2 && exit 2 ;;
+shrink | plant) exec python3 "$here/$1.py" "$(realpath "$2")" "${@:3}" ;;
+*) sed -n '4,11s/^# //p' "$0" >&2 && exit 2 ;;
 esac
