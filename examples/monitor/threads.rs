@@ -313,6 +313,8 @@ fn share() -> Pass {
         lpi_bits: 16,
         profile: 1,
         config: CONFIG,
+        event_limit: u64::MAX,
+        device_limit: u64::MAX,
         ..Description::default()
     };
     let window = Window { base: 0x8000_0000, length: 0x20_0000 };

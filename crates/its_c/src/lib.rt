@@ -11,6 +11,9 @@ mod handle;
 mod interrupts;
 mod kept;
 mod lent;
+mod lent_bytes;
+#[cfg(test)]
+mod limit_tests;
 mod list_calls;
 #[cfg(test)]
 mod list_tests;

@@ -13,7 +13,7 @@ use std::alloc::Global;
 pub fn save(kept: &mut Kept, alloc: Global, fault: &mut SaveFaultOut) -> u32
     ensures done { result ≡ codes.done → IsSaved kept.old.machine kept.new.machine }
     ensures otherwise { IsUnsaved result kept.old.machine kept.new.machine fault.old fault.new }
-    ensures beside { (kept.new.desc ≡ kept.old.desc) × (kept.new.limit ≡ kept.old.limit) }
+    ensures beside { (kept.new.desc ≡ kept.old.desc) × (kept.new.limits ≡ kept.old.limits) }
 {
     match kept.answer(alloc, &Call::Save) {
         Ok(Reply::Saved) => DONE,
@@ -31,7 +31,7 @@ pub fn save(kept: &mut Kept, alloc: Global, fault: &mut SaveFaultOut) -> u32
 pub fn migrate(kept: &mut Kept, alloc: Global, fault: &mut SaveFaultOut) -> u32
     ensures done { result ≡ codes.done → IsMoved kept.old.machine kept.new.machine }
     ensures otherwise { IsUnsaved result kept.old.machine kept.new.machine fault.old fault.new }
-    ensures beside { (kept.new.desc ≡ kept.old.desc) × (kept.new.limit ≡ kept.old.limit) }
+    ensures beside { (kept.new.desc ≡ kept.old.desc) × (kept.new.limits ≡ kept.old.limits) }
 {
     match kept.migrate(alloc) {
         Ok(()) => DONE,

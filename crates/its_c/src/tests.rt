@@ -32,6 +32,8 @@ pub const NUMBERS: DescriptionIn = DescriptionIn {
     cwriter: 0,
     baser0: 0,
     baser1: 0,
+    event_limit: u64::MAX,
+    device_limit: u64::MAX,
 };
 
 /// 2 MiB.
