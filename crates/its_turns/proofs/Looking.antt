@@ -110,15 +110,14 @@ module _ (s : Setup) (slots id : ℕ) (me : Me Value View) (passes : me.0.standi
     pub later_word : (first : ℕ) → get_or t.words 0 0 ≢ first → unpacked (packing_of s.limits) first ≡ me.0.last → (me.0.last.place < here.place) × ¬ IsLone me.0
     later_word first ne is = last_or_later (λ e. ne (unpacked_same (packing_of s.limits) (get_or t.words 0 0) first (e ∙ sym is)))
 
+  abbrev looked : (t : St) → Kept s t → View
+  looked t kp = loaded me.0 (unpacked (packing_of s.limits) (get_or t.words 0 0)) kp.history
+
   pub allows_look : Allows (Kept s) slots id me 0 (λ n. n) (looking (step slots 0 0 0 none) me)
   allows_look t kp deep at small = (
-    loaded me.0 (unpacked (packing_of s.limits) (get_or t.words 0 0)) kp.history,
+    looked t kp,
     keeps,
     tt,
     looks_in t kp at (get_or t.words 0 0) refl,
-    (
-      refl,
-      subst (λ (w : Word). Looks me.0 w (loaded me.0 (unpacked (packing_of s.limits) (get_or t.words 0 0)) kp.history) × IsLastOrLater me.0 w)
-          (reads t kp at) (sees t kp at, last_or_later t kp at),
-    ),
+    (refl, subst (λ (w : Word). Looks me.0 w (looked t kp)) (reads t kp at) (sees t kp at), subst (IsLastOrLater me.0) (reads t kp at) (last_or_later t kp at)),
   )

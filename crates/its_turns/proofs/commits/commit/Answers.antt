@@ -1,5 +1,4 @@
 use Rattle.std.proofs.Common.{subst, sym, arith}
-use Rattle.its_types.specs.declared.machine.Word.{Word}
 use Rattle.its_steps.specs.World.{word_after}
 use Rattle.its_turns.specs.Machines.{setup}
 use Rattle.its_turns.specs.Words.{IsRoomFor}
