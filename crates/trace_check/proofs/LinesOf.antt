@@ -1,5 +1,5 @@
 -- The lines of a history, and the calls that they are of.
-use Rattle.std.proofs.Common.{◌≡◌, ℕ, zero, suc, ◌+◌, ◌<◌, cond, List, [], ◌∷◌, ◌++◌, length, take, get_or, Some, None, refl, ap}
+use Rattle.std.proofs.Common.{◌≡◌, ℕ, zero, suc, ◌<◌, cond, List, [], ◌∷◌, ◌++◌, length, take, get_or, Some, None, refl, ap}
 use Rattle.std.proofs.Common.{◌∙◌, arith, eq-eqb}
 use Rattle.its_plain.specs.Runs.{Leg}
 use Rattle.its_plain.specs.declared.call.Call.{Call}
