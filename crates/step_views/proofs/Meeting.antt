@@ -30,7 +30,8 @@ use Rattle.owned_machine.specs.Whole.{IsMachine}
 use Rattle.owned_machine.proofs.Stepped.{still_left, met_is, step_is}
 use Rattle.plain_footprint.proofs.OtherParts.{other_parts}
 use Rattle.step_views.specs.Concern.{IsConcerned}
-use Rattle.step_views.specs.Counts.{adds_event, met_adds, maps_new, is_ran}
+use Rattle.step_views.specs.Counts.{step_adds, met_adds, maps_new, is_ran}
+use Rattle.step_views.specs.declared.counts.Addition.{Addition}
 use Rattle.step_views.specs.Lent.{IsNumber}
 use Rattle.step_views.specs.Pairs.{all_told}
 use Rattle.step_views.specs.Reads.{reads, met_reads, command_reads, still_reads}
@@ -57,20 +58,21 @@ module _ (u : Plain) (i : ℕ) where
       ∙ ap (λ (x : Command). all_told ((queue_place (regs_of u i), 32) ∷ [])
       (command_reads u.layout.shape (regs_of u i) (maps_of u i) u.redistributors x)) met.command
 
-  still_adds : (a : StepReply) → MeetsNone (regs_of u i) u.memory a → adds_event u i ≡ false
-  unfolding adds_event
-  still_adds Idle none = ap (λ (b : Bool). not b && met_adds u i (next_bytes u i)) none
-  still_adds (QueueFault addr) none =
-      ap (λ (b : Bool). not b && met_adds u i (next_bytes u i)) none.0 ∙ ap (λ (o : Option (List ℕ)). met_adds u i o) none.2
-  still_adds (Ran op) none = absurd none
-  still_adds (Refused op reason) none = absurd none
+  still_adds : (what : Addition) (a : StepReply) → MeetsNone (regs_of u i) u.memory a → step_adds what u i ≡ false
+  unfolding step_adds
+  still_adds what Idle none = ap (λ (b : Bool). not b && met_adds what u i (next_bytes u i)) none
+  still_adds what (QueueFault addr) none =
+      ap (λ (b : Bool). not b && met_adds what u i (next_bytes u i)) none.0 ∙ ap (λ (o : Option (List ℕ)). met_adds what u i o) none.2
+  still_adds what (Ran op) none = absurd none
+  still_adds what (Refused op reason) none = absurd none
 
-  met_adds_is : (c : Command) → MeetsCommand (regs_of u i) u.memory c → adds_event u i ≡ (is_ok (ran u i c) && maps_new (maps_of u i) c)
-  unfolding adds_event
-  met_adds_is c met =
-      ap (λ (b : Bool). not b && met_adds u i (next_bytes u i)) met.busy
-      ∙ ap (λ (o : Option (List ℕ)). met_adds u i o) met.bytes_are
-      ∙ ap (λ (x : Command). is_ok (ran u i x) && maps_new (maps_of u i) x) met.command
+  met_adds_is : (what : Addition) (c : Command) → MeetsCommand (regs_of u i) u.memory c
+      → step_adds what u i ≡ (is_ok (ran u i c) && maps_new what (maps_of u i) c)
+  unfolding step_adds
+  met_adds_is what c met =
+      ap (λ (b : Bool). not b && met_adds what u i (next_bytes u i)) met.busy
+      ∙ ap (λ (o : Option (List ℕ)). met_adds what u i o) met.bytes_are
+      ∙ ap (λ (x : Command). is_ok (ran u i x) && maps_new what (maps_of u i) x) met.command
 
   met_needs : (c : Command) → MeetsCommand (regs_of u i) u.memory c → needed_next u i ≡ needed u i c
   met_needs c met =
@@ -98,8 +100,8 @@ module _ (p : Parts) (its : ℕ) (none : slice_get (state_of_parts p).translator
   pub reads_idle : [] ≡ reads (state_of_parts p) its
   reads_idle = sym (still_read (state_of_parts p) its Idle (none_idle (state_of_parts p) its none))
 
-  pub adds_idle : false ≡ adds_event (state_of_parts p) its
-  adds_idle = sym (still_adds (state_of_parts p) its Idle (none_idle (state_of_parts p) its none))
+  pub adds_idle : (what : Addition) → false ≡ step_adds what (state_of_parts p) its
+  adds_idle what = sym (still_adds (state_of_parts p) its what Idle (none_idle (state_of_parts p) its none))
 
 -- a refused command leaves all redistributors
 pub refused_left : (u : Plain) (i : ℕ) (r : Result Plain Reason) → is_ok r ≡ false → (v : ℕ)
@@ -152,13 +154,14 @@ module _ (p : Parts) (t : TranslatorRef) (m : IsMachine p) (i : ℕ) (at : IsNum
       (λ d. all_told ((queue_place (same_regs d), 32) ∷ []) (command_reads p.layout.shape (same_regs d) (same_maps d) u.redistributors c))
       ∙ sym (met_read u i c (met_here c met))
 
-  pub adds_still : (a : StepReply) → MeetsNone t.regs.now p.memory a → false ≡ adds_event u i
-  adds_still a none = sym (still_adds u i a (none_here a none))
+  pub adds_still : (what : Addition) (a : StepReply) → MeetsNone t.regs.now p.memory a → false ≡ step_adds what u i
+  adds_still what a none = sym (still_adds u i what a (none_here a none))
 
-  pub adds_met : (c : Command) → MeetsCommand t.regs.now p.memory c → (maps_new t.maps.now.maps c && is_ok (ran u i c)) ≡ adds_event u i
-  adds_met c met =
-      ap (λ (x : Maps). maps_new x c && is_ok (ran u i c)) same_maps ∙ both_tests (maps_new (maps_of u i) c) (is_ok (ran u i c))
-      ∙ sym (met_adds_is u i c (met_here c met))
+  pub adds_met : (what : Addition) (c : Command) → MeetsCommand t.regs.now p.memory c
+      → (maps_new what t.maps.now.maps c && is_ok (ran u i c)) ≡ step_adds what u i
+  adds_met what c met =
+      ap (λ (x : Maps). maps_new what x c && is_ok (ran u i c)) same_maps ∙ both_tests (maps_new what (maps_of u i) c) (is_ok (ran u i c))
+      ∙ sym (met_adds_is u i what c (met_here c met))
 
   -- ---- redistributors
 

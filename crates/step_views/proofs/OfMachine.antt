@@ -23,7 +23,9 @@ use Rattle.owned_machine.proofs.Stepped.{needed_held, holds_all}
 use Rattle.table_save.specs.Areas.{HaveLowTables}
 use Rattle.table_save.proofs.SoundState.{redistributors_low}
 use Rattle.std.specs.Prelude.{slice_get, length}
-use Rattle.step_views.specs.Counts.{event_count}
+use Rattle.std.specs.Ordering.{nat_cmp}
+use Rattle.its_types.specs.declared.translation.Device.{Device}
+use Rattle.step_views.specs.Counts.{device_count, event_count}
 use Rattle.step_views.specs.Lent.{IsNumber, IsTranslatorOf}
 
 pub low_tables : (p : Parts) → IsMachine p → HaveLowTables p.layout.shape p.redists
@@ -59,10 +61,20 @@ module _ (p : Parts) (t : TranslatorRef) (m : IsMachine p) where
   needed h c =
       needed_held p.layout.shape t.regs.now t.maps.now.maps p.memory p.redists c (state_of_parts p, h.0, m.sound, parts_of h.0 h.1) (holds_all p m)
 
-  pub counted_there : (i : ℕ) → IsNumber p t i → length (entries t.maps.now.maps.events) ≡ event_count (state_of_parts p) i
-  counted_there i at = ap (λ (x : Translator). length (entries x.maps.events)) (sym (translator_is i at))
+  pub devices_there : (i : ℕ) → IsNumber p t i → length (entries t.maps.now.maps.devices) ≡ device_count (state_of_parts p) i
+  devices_there i at = ap (λ (x : Translator). length (entries x.maps.devices)) (sym (translator_is i at))
 
-pub none_counted : (p : Parts) (its : ℕ) → slice_get (state_of_parts p).translators its ≡ None → event_count (state_of_parts p) its ≡ 0
-none_counted p its none =
-    ap (λ (x : Translator). length (entries x.maps.events)) (not_found (state_of_parts p).translators its no_translator none)
-    ∙ sym (len-entries no_maps.events) ∙ len-empty pair_cmp Event
+  pub events_there : (i : ℕ) → IsNumber p t i → length (entries t.maps.now.maps.events) ≡ event_count (state_of_parts p) i
+  events_there i at = ap (λ (x : Translator). length (entries x.maps.events)) (sym (translator_is i at))
+
+-- of a translator that there isn't nothing is mapped
+module _ (p : Parts) (its : ℕ) (none : slice_get (state_of_parts p).translators its ≡ None) where
+  pub no_devices : device_count (state_of_parts p) its ≡ 0
+  no_devices =
+      ap (λ (x : Translator). length (entries x.maps.devices)) (not_found (state_of_parts p).translators its no_translator none)
+      ∙ sym (len-entries no_maps.devices) ∙ len-empty nat_cmp Device
+
+  pub no_events : event_count (state_of_parts p) its ≡ 0
+  no_events =
+      ap (λ (x : Translator). length (entries x.maps.events)) (not_found (state_of_parts p).translators its no_translator none)
+      ∙ sym (len-entries no_maps.events) ∙ len-empty pair_cmp Event

@@ -1,5 +1,5 @@
-//! What the next step of a machine reads and may change, where an event leads, and how many events
-//! are mapped: looks at the parts of a machine, which change nothing.
+//! What the next step of a machine reads and may change, where an event leads, and how many devices
+//! and events are mapped: looks at the parts of a machine, which change nothing.
 #![tactic(auto)]
 
 mod concern;
@@ -15,7 +15,7 @@ mod stretch;
 mod walk;
 
 pub use concern::concerned;
-pub use counts::{adds_event, event_count};
+pub use counts::{adds_device, adds_event, device_count, event_count};
 pub use destination::Destination;
 pub use laws::{destination_tells, saves_stay_inside, step_reads, steps_add_one};
 pub use reading::needs;
