@@ -2,12 +2,14 @@
 ghost use Rattle.std.specs.Prelude.{◌≡◌, ℕ, is_ok};
 ghost use Rattle.cmd_exec.specs.Room as room;
 ghost use Rattle.its_plain.specs.Commands as commands;
+ghost use Rattle.owned_machine.specs.Lent.{on};
 ghost use Rattle.owned_machine.specs.Whole.{IsMachine};
 ghost use Rattle.owned_parts.specs.Owned.{state_of_parts};
 ghost use Rattle.step_views.specs.Counts as spec;
 ghost use Rattle.step_views.specs.Lent.{IsNumber, IsTranslatorOf};
 
 use cmd_exec::{Met, meet, plan};
+use guest_windows::Memory;
 use its_command::Command;
 use its_maps::{LookUp, Maps};
 use its_plain::StepReply;
@@ -51,7 +53,15 @@ pub fn adds_device(parts: &Parts, its: u8) -> bool
     requires { IsMachine parts.now }
     ensures { result ≡ spec.adds_device (state_of_parts parts.now) its }
 {
-    step_adds(parts, its, Addition::NewDevice)
+    adds_device_on(parts, &parts.memory, its)
+}
+
+/// The same of a step that is made on other memory.
+pub fn adds_device_on(parts: &Parts, memory: &Memory, its: u8) -> bool
+    requires { IsMachine parts.now }
+    ensures { result ≡ spec.adds_device (on memory.now (state_of_parts parts.now)) its }
+{
+    step_adds(parts, memory, its, Addition::NewDevice)
 }
 
 /// Whether the next step of a translator maps an event that isn't mapped: its command is a MAPTI or
@@ -60,31 +70,39 @@ pub fn adds_event(parts: &Parts, its: u8) -> bool
     requires { IsMachine parts.now }
     ensures { result ≡ spec.adds_event (state_of_parts parts.now) its }
 {
-    step_adds(parts, its, Addition::NewEvent)
+    adds_event_on(parts, &parts.memory, its)
 }
 
-fn step_adds(parts: &Parts, its: u8, what: Addition) -> bool
+/// The same of a step that is made on other memory.
+pub fn adds_event_on(parts: &Parts, memory: &Memory, its: u8) -> bool
     requires { IsMachine parts.now }
-    ensures { result ≡ spec.step_adds what (state_of_parts parts.now) its }
+    ensures { result ≡ spec.adds_event (on memory.now (state_of_parts parts.now)) its }
+{
+    step_adds(parts, memory, its, Addition::NewEvent)
+}
+
+fn step_adds(parts: &Parts, memory: &Memory, its: u8, what: Addition) -> bool
+    requires { IsMachine parts.now }
+    ensures { result ≡ spec.step_adds what (on memory.now (state_of_parts parts.now)) its }
 {
     match parts.in_place().translator(its) {
-        Some(translator) => adds(parts, translator, what),
+        Some(translator) => adds(parts, memory, translator, what),
         None => false,
     }
 }
 
-fn adds(parts: &Parts, translator: TranslatorRef<'_>, what: Addition) -> bool
+fn adds(parts: &Parts, memory: &Memory, translator: TranslatorRef<'_>, what: Addition) -> bool
     requires whole { IsMachine parts.now }
     requires there { IsTranslatorOf parts.now translator }
     ensures { (i : ℕ) → IsNumber parts.now translator.entry i
-        → result ≡ spec.step_adds what (state_of_parts parts.now) i }
+        → result ≡ spec.step_adds what (on memory.now (state_of_parts parts.now)) i }
 {
     let TranslatorRef { regs, maps } = translator;
-    match meet(regs, &parts.memory) {
+    match meet(regs, memory) {
         Met::Still(_) => false,
         Met::Command(command) => {
             if maps_new(&command, maps, what) {
-                runs(parts, translator, &command)
+                runs(parts, memory, translator, &command)
             } else {
                 false
             }
@@ -92,19 +110,24 @@ fn adds(parts: &Parts, translator: TranslatorRef<'_>, what: Addition) -> bool
     }
 }
 
-/// Whether the command that a translator has met isn't refused.
-pub fn runs(parts: &Parts, translator: TranslatorRef<'_>, command: &Command) -> bool
+/// Whether the command that a translator has met in this memory isn't refused.
+pub fn runs(
+    parts: &Parts,
+    memory: &Memory,
+    translator: TranslatorRef<'_>,
+    command: &Command,
+) -> bool
     requires whole { IsMachine parts.now }
     requires there { IsTranslatorOf parts.now translator }
-    ensures { (i : ℕ) → IsNumber parts.now translator.entry i
-        → result ≡ is_ok (commands.ran (state_of_parts parts.now) i command.now) }
+    ensures { (i : ℕ) → IsNumber parts.now translator.entry i → result
+        ≡ is_ok (commands.ran (on memory.now (state_of_parts parts.now)) i command.now) }
 {
     let TranslatorRef { regs, maps } = translator;
     let planned = plan(
         command,
         regs,
         maps,
-        &parts.memory,
+        memory,
         &parts.redists,
         &parts.layout.shape,
     );

@@ -14,10 +14,12 @@ mod sorted_tables;
 mod stretch;
 mod walk;
 
-pub use concern::concerned;
-pub use counts::{adds_device, adds_event, device_count, event_count};
+pub use concern::{concerned, concerned_on};
+pub use counts::{
+    adds_device, adds_device_on, adds_event, adds_event_on, device_count, event_count,
+};
 pub use destination::Destination;
-pub use laws::{destination_tells, saves_stay_inside, step_reads, steps_add_one};
+pub use laws::{destination_tells, lent_steps_agree, saves_stay_inside, step_reads, steps_add_one};
 pub use reading::needs;
 pub use seen::event;
 pub use stretch::Stretch;

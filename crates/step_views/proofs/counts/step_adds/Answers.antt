@@ -16,5 +16,5 @@ returns-in-Some c =
 
 pub returns-in-None : goal.returns-in-None
 returns-in-None c =
-    adds_idle c.args.parts.now c.args.its
+    adds_idle c.args.parts.now c.args.memory.now c.args.its
     (lent_none c.args.parts.now c.in_place.result c.args.its c.translator.result c.in_place.ensures.state c.translator.ensures c.in-None.is) c.args.what
