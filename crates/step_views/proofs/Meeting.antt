@@ -3,8 +3,8 @@ use Rattle.std.proofs.Common.{◌≡◌, ℕ, Bool, true, false, cond, List, [],
 use Rattle.std.specs.Prelude.{not, ◌&&◌, ◌||◌, ◌⊎◌, is_ok, slice_get}
 use Rattle.std.proofs.lemmas.Bool.{both_ways}
 use Rattle.std.proofs.lemmas.Option.{same_Some}
-use Rattle.gits_regs.specs.Registers.{Registers, queue_place}
-use Rattle.its_command.specs.Commands.{op_of}
+use Rattle.gits_regs.specs.Registers.{Registers, queue_place, is_queue_empty}
+use Rattle.its_command.specs.Commands.{op_of, decoded}
 use Rattle.its_command.specs.declared.command.Command.{Command}
 use Rattle.its_command.specs.declared.command.Op.{Op}
 use Rattle.its_types.specs.Maps.{Maps}
@@ -37,7 +37,7 @@ use Rattle.step_views.specs.Counts.{step_adds, met_adds, maps_new, is_ran}
 use Rattle.step_views.specs.declared.counts.Addition.{Addition}
 use Rattle.step_views.specs.Lent.{IsNumber}
 use Rattle.step_views.specs.Pairs.{all_told}
-use Rattle.step_views.specs.Reads.{reads, met_reads, command_reads, still_reads}
+use Rattle.step_views.specs.Reads.{reads, reads_by, met_reads, command_reads, still_reads}
 use Rattle.step_views.proofs.OfMachine.{translator_is, none_idle}
 
 -- ---- of a state
@@ -105,6 +105,11 @@ module _ (p : Parts) (memory : List Window) (its : ℕ) (none : slice_get (state
   pub reads_idle : [] ≡ reads x its
   reads_idle = sym (still_read x its Idle (none_idle x its none))
 
+  pub by_none : (bytes : List ℕ) → [] ≡ reads_by x its bytes
+  unfolding reads_by
+  by_none bytes =
+      sym (ap (λ (b : Bool). cond b [] (all_told ((queue_place (regs_of x its), 32) ∷ []) (met_reads x its (Some bytes)))) (none_idle x its none))
+
   pub adds_idle : (what : Addition) → false ≡ step_adds what x its
   adds_idle what = sym (still_adds x its what Idle (none_idle x its none))
 
@@ -159,6 +164,23 @@ module _ (p : Parts) (memory : List Window) (t : TranslatorRef) (m : IsMachine p
   reads_met c met =
       (λ d. all_told ((queue_place (same_regs d), 32) ∷ []) (command_reads p.layout.shape (same_regs d) (same_maps d) u.redistributors c))
       ∙ sym (met_read u i c (met_here c met))
+
+  -- by the bytes of a command
+  abbrev told_by : List ℕ → Bool → List (ℕ × ℕ)
+  told_by bytes idle = cond idle [] (all_told ((queue_place (regs_of u i), 32) ∷ []) (met_reads u i (Some bytes)))
+
+  pub by_idle : (bytes : List ℕ) → (not t.regs.now.enabled || is_queue_empty t.regs.now) ≡ true → [] ≡ reads_by u i bytes
+  unfolding reads_by
+  by_idle bytes idle =
+      sym (ap (told_by bytes) (ap (λ (r : Registers). not r.enabled || is_queue_empty r) (sym same_regs) ∙ idle))
+
+  pub by_bytes : (bytes : List ℕ) → (not t.regs.now.enabled || is_queue_empty t.regs.now) ≡ false
+      → all_told ((queue_place t.regs.now, 32) ∷ []) (command_reads p.layout.shape t.regs.now t.maps.now.maps u.redistributors (decoded bytes))
+      ≡ reads_by u i bytes
+  unfolding reads_by
+  by_bytes bytes busy =
+      (λ d. all_told ((queue_place (same_regs d), 32) ∷ []) (command_reads p.layout.shape (same_regs d) (same_maps d) u.redistributors (decoded bytes)))
+      ∙ sym (ap (told_by bytes) (ap (λ (r : Registers). not r.enabled || is_queue_empty r) (sym same_regs) ∙ busy))
 
   pub adds_still : (what : Addition) (a : StepReply) → MeetsNone t.regs.now memory a → false ≡ step_adds what u i
   adds_still what a none = sym (still_adds u i what a (none_here a none))

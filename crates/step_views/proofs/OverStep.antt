@@ -14,8 +14,8 @@ use Rattle.its_plain.specs.Sound.{IsSound}
 use Rattle.its_plain.specs.declared.call.Reason.{Reason}
 use Rattle.its_plain.specs.declared.call.StepReply.TheVariants.{Idle}
 use Rattle.owned_machine.specs.Lent.{on}
-use Rattle.step_views.specs.Laws.{HasSameBytes, over, StepReads, LentStepsAgree}
-use Rattle.step_views.specs.Reads.{reads, met_reads}
+use Rattle.step_views.specs.Laws.{HasSameBytes, over, StepReads, StepReadsBy, LentStepsAgree}
+use Rattle.step_views.specs.Reads.{reads, reads_by, met_reads}
 use Rattle.step_views.proofs.OverRan.{lifted, ran_over}
 use Rattle.step_views.proofs.Listing.{told_before, told_all}
 use Rattle.step_views.specs.Pairs.{all_told}
@@ -81,3 +81,10 @@ pub lent_agree : LentStepsAgree
 lent_agree u i memory sound h =
     let same = step_same memory u.track u i sound h.windows h.bytes in
     (same.0, ap (on u.memory) same.1 ∙ sym (left_same u i sound))
+
+-- ---- by the command's bytes
+
+pub by_command : StepReadsBy
+unfolding reads reads_by
+by_command u i bytes is =
+    ap (λ (o : Option (List ℕ)). cond (is_idle u i) [] (all_told ((queue_place (regs_of u i), 32) ∷ []) (met_reads u i o))) is

@@ -19,8 +19,11 @@ pub use counts::{
     adds_device, adds_device_on, adds_event, adds_event_on, device_count, event_count,
 };
 pub use destination::Destination;
-pub use laws::{destination_tells, lent_steps_agree, saves_stay_inside, step_reads, steps_add_one};
-pub use reading::needs;
+pub use laws::{
+    destination_tells, lent_steps_agree, reads_by_command, saves_stay_inside, step_reads,
+    steps_add_one,
+};
+pub use reading::{needs, needs_by};
 pub use seen::event;
 pub use stretch::Stretch;
 pub use walk::Needs;
