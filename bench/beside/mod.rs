@@ -5,7 +5,7 @@ mod locks;
 mod parts;
 mod ports;
 
-use crate::{DEVICES, EVENTS};
+use crate::{DEVICES, EVENTS, FIRST_LPI, LPIS};
 use locks::{Locked, Spinlock, TicketLock};
 use parts::{Command, Whole};
 use ports::Ports;
@@ -121,6 +121,29 @@ impl Other {
             _ => drop(black_box(machine.step(me))),
         }
     }
+}
+
+// How many commands stand in the queue at once.
+const BATCH: u32 = 1024;
+
+/// How long steps take that map so many events of one device, on a machine of four processors.
+pub fn steps(events: u32) -> (u64, Duration) {
+    let mut whole = Whole::new(4, &[]);
+    whole.maps.map_collection(1, 1);
+    whole.run(Command::Mapd { dev: WIDE, bits: events.max(2).ilog2(), table: WIDE_TABLE });
+    let machine = Ports::new(whole);
+    let mut spent = Duration::ZERO;
+    for first in (0..events).step_by(BATCH as usize) {
+        let batch = first..events.min(first + BATCH);
+        let map = |ev: u32| Command::Mapti { dev: WIDE, ev, intid: FIRST_LPI + ev % LPIS as u32, icid: 1 };
+        machine.queue(1, batch.clone().map(|ev| (ev as usize, map(ev))));
+        let since = Instant::now();
+        for _ in batch {
+            black_box(machine.step(1));
+        }
+        spent += since.elapsed();
+    }
+    (u64::from(events), spent)
 }
 
 // What the threads share.
