@@ -2,6 +2,7 @@
 //! and returned, that fits what they were answered.
 #![tactic(auto)]
 
+mod at_once;
 mod fronts;
 mod outcome;
 mod recorded;
