@@ -1,11 +1,11 @@
 -- What the program's moves of a search leave true.
-use Rattle.std.proofs.Common.{◌≡◌, ℕ, ◌+◌, ◌-◌, ◌≤◌, List, [], ◌∷◌, ◌++◌, length, take, Option, Some, None, refl, sym, ap, subst, ◌∙◌, inl, inr, arith, append-nil, length-append}
+use Rattle.std.proofs.Common.{◌≡◌, ℕ, ◌+◌, ◌-◌, ◌*◌, ◌<◌, ◌≤◌, List, [], ◌∷◌, ◌++◌, length, take, Option, Some, None, refl, sym, ap, subst, ◌∙◌, inl, inr, arith, append-nil, length-append}
 use Rattle.std.specs.Prelude.{MatchOption, option_to_list}
 use Rattle.std.proofs.lemmas.List.{length-replicate, length-set}
 use Rattle.front_search.specs.Fits.{Answers, Leads, Fits}
-use Rattle.front_search.specs.Fronts.{Threads, Front, MayGo, placed, start}
+use Rattle.front_search.specs.Fronts.{Threads, Front, MayGo, more, placed, start}
 use Rattle.front_search.specs.Moves.{IsEmpty, IsKept, IsNew, IsPlaced, IsReturned, IsSkipped, IsTaken, threads_of}
-use Rattle.front_search.specs.Trails.{NoneBelow, IsEnough, Steps, Trail, IsAt, IsReached, NoneFits}
+use Rattle.front_search.specs.Trails.{NoneBelow, IsEnough, Steps, Trail, GoesOn, IsAt, IsReached, NoneFits}
 use Rattle.front_search.specs.declared.trail.Placed.{Placed}
 use Rattle.front_search.specs.declared.trail.Search.{Search}
 use Rattle.front_search.proofs.Trails.{BackAt, back_at, below_miss, leads_fit, none_fits, none_yet, placed_so, trail_leads, trail_more}
@@ -88,6 +88,30 @@ at_skipped {S = S} went IsEnd threads first s t i n u k ue ke miss enough p here
 
 pub path_skipped : {S : Type 0} (n : ℕ) (s t : Search S) → IsSkipped n s t → length t.path.items ≤ length s.path.items + 1
 path_skipped n s t p = omega (arith, ap length p.path)
+
+-- ---- a call more where no order fits
+
+pub at_run_on : {S : Type 0} (went : Answers S) (IsEnd : S → Type 0) (threads : Threads) (first : S) (s t v : Search S) (i n m : ℕ) (w : S)
+    → ((order : List ℕ) → ¬ Fits went IsEnd threads s.front.items s.state order) → GoesOn went threads s i w → IsPlaced i n w s t → IsSkipped m t v
+    → IsAt went IsEnd threads first s → IsAt went IsEnd threads first v
+at_run_on {S = S} went IsEnd threads first s t v i n m w none goes p k here =
+    let there : IsAt went IsEnd threads first t =
+    at_placed went IsEnd threads first s t i n w s.state (placed s.front.items i) refl refl goes.may_go goes.answered goes.one_state
+    (λ one j order lt f. none (j ∷ order) f) p here in
+    record {
+      trail = trail_at went IsEnd threads first (sym k.path) (sym k.front) (sym k.state) there.trail;
+      none_below = λ j order lt f.
+          let moved : Fits went IsEnd threads (more s.front.items i) w (j ∷ order) =
+          subst (λ (x : Front). Fits went IsEnd threads x w (j ∷ order)) (k.front ∙ p.front)
+          (subst (λ (x : S). Fits went IsEnd threads v.front.items x (j ∷ order)) (k.state ∙ p.state_is) f) in
+          none (i ∷ j ∷ order) (w, record { may_go = goes.may_go; answered = goes.answered }, moved);
+      long = ap length k.front ∙ there.long;
+      reached = subst (λ (order : List ℕ). IsReached went threads first order) (sym k.reached) there.reached;
+    }
+
+pub path_run_on : {S : Type 0} (s t v : Search S) (i n m : ℕ) (w : S) (a b : ℕ) → a < b → IsPlaced i n w s t → IsSkipped m t v
+    → 2 * a + length v.path.items < 2 * b + length s.path.items
+path_run_on s t v i n m w a b lt p k = let le : length t.path.items ≤ length s.path.items + 1 = path_placed i n w s t p in omega (arith, lt, le, ap length k.path)
 
 -- ---- the last call taken back
 

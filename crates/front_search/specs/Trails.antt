@@ -1,7 +1,7 @@
 -- How far a search is.
-use Rattle.std.specs.Prelude.{◌≡◌, ℕ, ◌<◌, List, [], ◌∷◌, length}
+use Rattle.std.specs.Prelude.{◌≡◌, ℕ, ◌+◌, ◌^◌, ◌<◌, List, [], ◌∷◌, length}
 use Rattle.front_search.specs.Fits.{Answers, GoesTo, Leads, Fits}
-use Rattle.front_search.specs.Fronts.{Threads, Front, more, placed, start}
+use Rattle.front_search.specs.Fronts.{Threads, Front, MayGo, more, placed, start}
 use Rattle.front_search.specs.declared.trail.Placed.{Placed}
 use Rattle.front_search.specs.declared.trail.Search.{Search}
 
@@ -26,6 +26,14 @@ abbrev pub Trail : {S : Type 0} → Answers S → (S → Type 0) → Threads →
 Trail went IsEnd threads front u [] front' u' = (front ≡ front') × (u ≡ u')
 Trail {S = S} went IsEnd threads front u (p ∷ path) front' u' = (w : S) × Steps went IsEnd threads front u p w
     × Trail went IsEnd threads (more front p.thread) w path front' u'
+
+-- a thread's next call goes where a search stands, and leads to this state alone
+pub record GoesOn {S : Type 0} (went : Answers S) (threads : Threads) (s : Search S) (i : ℕ) (w : S) : Type 0 where
+  pub below : i < length threads
+  pub may_go : MayGo threads s.front.items i
+  pub answered : went s.state i (placed s.front.items i) w
+  pub one_state : (x : S) → went s.state i (placed s.front.items i) x → x ≡ w
+  pub counted : placed s.front.items i + 1 < 2 ^ 64
 
 -- the calls of the order go one after another from the start
 abbrev pub IsReached : {S : Type 0} → Answers S → Threads → S → List ℕ → Type 0

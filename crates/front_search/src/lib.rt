@@ -6,6 +6,7 @@ mod at_once;
 mod fronts;
 mod outcome;
 mod recorded;
+mod run_on;
 mod search;
 mod span;
 mod trail;

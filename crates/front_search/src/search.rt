@@ -1,7 +1,7 @@
 //! A search in depth over fronts.
 
-ghost use Rattle.std.specs.Prelude.{◌≡◌, ◌<◌, ◌≤◌, ◌+◌, ◌^◌, ℕ, true, false, [], ◌∷◌, IfOk, OnOk};
-ghost use Rattle.std.specs.Prelude.{IfNone, IfSome};
+ghost use Rattle.std.specs.Prelude.{◌≡◌, ◌<◌, ◌≤◌, ◌+◌, ◌*◌, ◌^◌, ℕ, true, false, []};
+ghost use Rattle.std.specs.Prelude.{◌∷◌, IfNone, IfOk, IfSome, OnOk};
 ghost use Rattle.std.specs.Prelude.{length};
 ghost use Rattle.std.specs.Bool.{Decides};
 ghost use Rattle.front_search.specs.Fits.{Fits};
@@ -14,6 +14,7 @@ use crate::at_once::first_at_once;
 use crate::fronts::{is_whole, least_from};
 use crate::outcome::Outcome;
 use crate::recorded::Recorded;
+use crate::run_on::run_on;
 use crate::span::Span;
 use crate::trail::Search;
 use its_types::Listed;
@@ -53,8 +54,8 @@ pub fn find_order<S: Drop, C: Recorded<S>>(
                     let order = search.order(alloc)?;
                     return Ok(Outcome::Fits(order));
                 }
-                let back = go_back(alloc, calls, threads, &mut search)?;
-                if !back {
+                let more = go_on(alloc, calls, threads, &mut search, &mut left)?;
+                if !more {
                     return Ok(Outcome::Nowhere(search.into_reached()));
                 }
             }
@@ -154,6 +155,42 @@ fn try_call<S: Drop, C: Recorded<S>>(
             Ok(())
         }
     }
+}
+
+/// Goes on where no order fits: runs on if that may come to the longest order, or else goes back.
+/// Answers whether the search isn't over.
+fn go_on<S: Drop, C: Recorded<S>>(
+    alloc: Global,
+    calls: &C,
+    threads: &[Listed<Span>],
+    search: &mut Search<S>,
+    left: &mut u64,
+) -> Result<bool, AllocError>
+    requires at { IsSomewhere (C.Goes calls.now) (C.IsEnd calls.now) threads.now search.old }
+    requires no_more { (j : ℕ) → search.old.next ≤ j
+        → ¬ MayGo threads.now search.old.front.items j }
+    requires no_end { ¬ Fits (C.Goes calls.now) (C.IsEnd calls.now) threads.now
+        search.old.front.items search.old.state [] }
+    ensures on { IfOk result (λ b. b ≡ true → (first : S) →
+        IsAt (C.Goes calls.now) (C.IsEnd calls.now) threads.now first search.old →
+        IsAt (C.Goes calls.now) (C.IsEnd calls.now) threads.now first search.new) }
+    ensures less { IfOk result (λ b. b ≡ true →
+        2 * left.new + length search.new.path.items
+        < 2 * left.old + length search.old.path.items) }
+    ensures none { IfOk result (λ b. b ≡ false → (first : S) →
+        IsAt (C.Goes calls.now) (C.IsEnd calls.now) threads.now first search.old →
+        NoneFits (C.Goes calls.now) (C.IsEnd calls.now) threads.now first) }
+    ensures reached { IfOk result (λ b. b ≡ false → (first : S) →
+        IsAt (C.Goes calls.now) (C.IsEnd calls.now) threads.now first search.old →
+        IsReached (C.Goes calls.now) threads.now first search.new.reached.items) }
+{
+    if search.is_longest() {
+        let further = run_on(alloc, calls, threads, search, left)?;
+        if further {
+            return Ok(true);
+        }
+    }
+    go_back(alloc, calls, threads, search)
 }
 
 /// Takes the last call back, after which no order fits, and answers whether there was one.

@@ -38,19 +38,19 @@ returns-then-ends-clause-fits g c =
     fits_at (g.C.Recorded.Goes c.args.calls.now) (g.C.Recorded.IsEnd c.args.calls.now) c.args.threads.now c.args.first c.tries.search c.in_ok-order-in-None.order.items
     c.in_ok-order-in-None.ensures (c.in_ok-ends-in-None.ensures.0 c.if-ends.true) c.tries.invariant
 
-pub go_back-requires-clause-at : goal.go_back-requires-clause-at
-go_back-requires-clause-at g c = (c.args.first, c.tries.invariant)
+pub go_on-requires-clause-at : goal.go_on-requires-clause-at
+go_on-requires-clause-at g c = (c.args.first, c.tries.invariant)
 
-pub go_back-requires-clause-no_more : goal.go_back-requires-clause-no_more
-go_back-requires-clause-no_more g c = rw c.in-None.is at c.choose.ensures.none
+pub go_on-requires-clause-no_more : goal.go_on-requires-clause-no_more
+go_on-requires-clause-no_more g c = rw c.in-None.is at c.choose.ensures.none
 
-pub go_back-requires-clause-no_end : goal.go_back-requires-clause-no_end
-go_back-requires-clause-no_end g c = not_from_Decides c.in_ok-ends-in-None.ends c.in_ok-ends-in-None.ensures c.if-ends.false
+pub go_on-requires-clause-no_end : goal.go_on-requires-clause-no_end
+go_on-requires-clause-no_end g c = not_from_Decides c.in_ok-ends-in-None.ends c.in_ok-ends-in-None.ensures c.if-ends.false
 
-pub returns-then-not-back-clause-nowhere : goal.returns-then-not-back-clause-nowhere
-returns-then-not-back-clause-nowhere g c = c.in_ok-back-in-None.ensures.none c.if-not-back.true c.args.first c.tries.invariant
+pub returns-then-not-more-clause-nowhere : goal.returns-then-not-more-clause-nowhere
+returns-then-not-more-clause-nowhere g c = c.in_ok-more-in-None.ensures.none c.if-not-more.true c.args.first c.tries.invariant
 
-pub returns-then-not-back-clause-reached : goal.returns-then-not-back-clause-reached
-returns-then-not-back-clause-reached g c =
+pub returns-then-not-more-clause-reached : goal.returns-then-not-more-clause-reached
+returns-then-not-more-clause-reached g c =
     subst (λ (o : List ℕ). IsReached (g.C.Recorded.Goes c.args.calls.now) c.args.threads.now c.args.first o) (sym c.into_reached.ensures)
-    (c.in_ok-back-in-None.ensures.reached c.if-not-back.true c.args.first c.tries.invariant)
+    (c.in_ok-more-in-None.ensures.reached c.if-not-more.true c.args.first c.tries.invariant)
