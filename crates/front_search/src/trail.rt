@@ -1,6 +1,6 @@
 //! How far a search is: the calls that are placed, and the states before them.
 ghost use Rattle.std.specs.Prelude.{◌≡◌, ◌<◌, ◌≤◌, ◌+◌, ◌^◌, IfOk, OnOk, MatchOption};
-ghost use Rattle.std.specs.Prelude.{length, map, nat_lt, replicate};
+ghost use Rattle.std.specs.Prelude.{◌||◌, ◌==◌, length, map, nat_lt, replicate};
 ghost use Rattle.front_search.specs.Fronts as spec;
 ghost use Rattle.front_search.specs.Moves.{IsEmpty, IsKept, IsNew, IsPlaced, IsReturned, IsSkipped};
 ghost use Rattle.front_search.specs.Moves.{IsTaken};
@@ -124,11 +124,13 @@ impl<S: Drop> Search<S> {
         self.next = next;
     }
 
-    /// Whether more calls are placed than the longest order has from which the search went back.
+    /// Whether more calls are placed than the longest order has from which the search went back, or
+    /// that has none.
     pub fn is_longest(&self) -> bool
-        ensures { result ≡ nat_lt (length self.now.reached.items) (length self.now.path.items) }
+        ensures { result ≡ (nat_lt (length self.now.reached.items) (length self.now.path.items)
+            || length self.now.reached.items == 0) }
     {
-        self.path.len() > self.reached.len()
+        self.path.len() > self.reached.len() || self.reached.is_empty()
     }
 
     /// Keeps the order of the calls that are placed, if it is the longest.
