@@ -315,6 +315,7 @@ fn share() -> Pass {
         config: CONFIG,
         event_limit: u64::MAX,
         device_limit: u64::MAX,
+        memory_limit: u64::MAX,
         ..Description::default()
     };
     let window = Window { base: 0x8000_0000, length: 0x20_0000 };
