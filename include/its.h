@@ -42,7 +42,7 @@ enum its_answer {
     ITS_RANGE = 3,     /* a number is out of its range */
     ITS_FAULT = 4,     /* the description or the state is at fault, as the call tells */
     ITS_HANDLE = 5,    /* the handle has no machine; at its_new: it has one already */
-    ITS_FULL = 6,      /* as many events or devices are mapped as may be; of its_new: more would be */
+    ITS_FULL = 6,      /* the guest has as many events, devices or pages as it may; of its_new: more */
     ITS_BUSY = 7,      /* of a pass: another has a part that is needed, or made a call meanwhile; try again */
     ITS_SPENT = 8      /* of a pass: all places of the machine's history are used, and no call is made */
 };
@@ -179,6 +179,7 @@ struct its_description_in {
     uint64_t baser1;       /* GITS_BASER1 */
     uint64_t event_limit;  /* events that may be mapped; UINT64_MAX: as many as there are */
     uint64_t device_limit; /* devices, so */
+    uint64_t memory_limit; /* bytes of guest memory that may be held, in pages of 65,536, so */
 };
 
 /*
@@ -324,8 +325,8 @@ uint32_t its_text(uint32_t list, uint32_t number, uint8_t *buffer, size_t buffer
  * `redistributors` has the registers of each, where it is 1, which count where `restored` is 1. The
  * lengths of the fills are together bytes_len. A machine that was saved comes up again with the
  * memory and the registers that it had. ITS_FULL where more events or devices are restored than the
- * limits say: the memory that they took is free again, and the handle has none. ITS_NO_MEMORY,
- * ITS_RANGE, ITS_FAULT with `fault`, ITS_HANDLE.
+ * limits say, or the fills take more pages: the memory that they took is free again, and the handle has
+ * none. ITS_NO_MEMORY, ITS_RANGE, ITS_FAULT with `fault`, ITS_HANDLE.
  */
 uint32_t its_new(struct its_handle *handle, const struct its_description_in *numbers,
                  const struct its_window_in *windows, size_t windows_len, const uint64_t *pending,
@@ -381,7 +382,8 @@ uint32_t its_read_memory(struct its_handle *handle, uint64_t address, uint8_t *b
 
 /*
  * Copies `bytes` to guest memory from an address on, all or none. ITS_NO_MEMORY, and errors as for
- * reading.
+ * reading. ITS_FULL where memory_limit would be passed; it is answered one page before that too, where the
+ * bytes don't all lie in one page that is held.
  */
 uint32_t its_write_memory(struct its_handle *handle, uint64_t address, const uint8_t *bytes,
                           size_t bytes_len);
@@ -406,7 +408,8 @@ uint32_t its_signal(struct its_handle *handle, uint32_t device, uint32_t event,
 /*
  * A write of 1 to 64 bytes by a requester, at an address: a message, where these are two or four bytes
  * at 65,600 after the frames; nothing, where they meet the frames otherwise; else a write of guest
- * memory. ITS_NO_MEMORY only of such a write, ITS_RANGE at another count of bytes, ITS_HANDLE.
+ * memory. ITS_NO_MEMORY and ITS_FULL only of such a write, as of its_write_memory; ITS_RANGE at another
+ * count of bytes, ITS_HANDLE.
  */
 uint32_t its_dma(struct its_handle *handle, uint32_t requester, uint64_t address,
                  const uint8_t *bytes, size_t bytes_len, struct its_dma_out *out);
@@ -491,12 +494,13 @@ uint32_t its_step_with(struct its_handle *handle, const struct its_stretch_out *
  */
 uint32_t its_limit(struct its_handle *handle, uint64_t events);
 
-/* So how many events, and how many devices. ITS_HANDLE. */
-uint32_t its_limits(struct its_handle *handle, uint64_t events, uint64_t devices);
+/* So how many events, how many devices, and how many bytes of guest memory. ITS_HANDLE. */
+uint32_t its_limits(struct its_handle *handle, uint64_t events, uint64_t devices, uint64_t memory);
 
 /*
  * Writes the tables to guest memory: devices, events, collections and pending LPIs, in the format of
- * KVM's ITS (ABI revision 0). ITS_NO_MEMORY, ITS_FAULT with `fault`, ITS_HANDLE.
+ * KVM's ITS (ABI revision 0). ITS_NO_MEMORY, ITS_FAULT with `fault`, ITS_FULL where memory_limit would be
+ * passed, as of its_write_memory, ITS_HANDLE.
  */
 uint32_t its_save(struct its_handle *handle, struct its_save_fault_out *fault);
 

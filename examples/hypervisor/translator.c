@@ -53,7 +53,8 @@ void translator_start(void)
                                                .programmed = 1,
                                                .linux_guest = 1,
                                                .event_limit = 4096,
-                                               .device_limit = UINT64_MAX};
+                                               .device_limit = UINT64_MAX,
+                                               .memory_limit = UINT64_MAX};
     const struct its_window_in window = {RAM, RAM_LENGTH};
     const struct its_redistributor_in redistributors[MOST_PROCESSORS] = {{0, 0, 0}};
     struct its_make_fault_out fault;

@@ -67,6 +67,7 @@ static struct its_description_in description(void)
     numbers.frames = FRAMES;
     numbers.event_limit = UINT64_MAX;
     numbers.device_limit = UINT64_MAX;
+    numbers.memory_limit = UINT64_MAX;
     return numbers;
 }
 
@@ -415,7 +416,7 @@ int main(void)
     struct its_save_fault_out fault;
 
     start(&first);
-    made("its_limits", its_limits(&first, 0, UINT64_MAX));
+    made("its_limits", its_limits(&first, 0, UINT64_MAX, UINT64_MAX));
     drive(&first);
     lead(&first, 7, 2);
     send(&first, 7, 2);

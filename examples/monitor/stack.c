@@ -221,7 +221,7 @@ static void describe(void)
 {
     numbers = (struct its_description_in){.vcpus = VCPUS, .device_bits = 16, .lpi_bits = 16, .profile = 2, .programmed = 1,
                                           .has_frames = 1, .frames = FRAMES,
-                                          .event_limit = UINT64_MAX, .device_limit = UINT64_MAX};
+                                          .event_limit = UINT64_MAX, .device_limit = UINT64_MAX, .memory_limit = UINT64_MAX};
     memset(redistributors, 0, sizeof redistributors);
     memset(memory, 0xa1, sizeof memory);
     queue_at = 0;

@@ -258,6 +258,7 @@ static void share(struct its_pass *root)
     numbers.config = CONFIG;
     numbers.event_limit = UINT64_MAX;
     numbers.device_limit = UINT64_MAX;
+    numbers.memory_limit = UINT64_MAX;
     for (i = 0; i < VCPUS; i++)
         pending[i] = 0x80040000u + 0x10000u * i;
     memset(bytes, 0xa1, sizeof bytes);

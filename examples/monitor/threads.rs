@@ -199,6 +199,7 @@ fn share() -> Pass {
         config: CONFIG,
         event_limit: u64::MAX,
         device_limit: u64::MAX,
+        memory_limit: u64::MAX,
         ..Description::default()
     };
     let window = Window { base: RAM, length: RAM_BYTES };

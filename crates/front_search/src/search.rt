@@ -21,7 +21,8 @@ use its_types::Listed;
 use std::alloc::{AllocError, Global};
 
 /// Looks for an order of the calls of some threads that fits what they were answered, from a first
-/// state on. It tries at most so many calls.
+/// state on. It tries at most so many calls, and of those that may come next one alone where that
+/// commutes with all that may stand before it.
 pub fn find_order<S: Drop, C: Recorded<S>>(
     alloc: Global,
     calls: &C,

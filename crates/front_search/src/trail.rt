@@ -98,8 +98,8 @@ impl<S: Drop> Search<S> {
         Ok(order)
     }
 
-    /// Places the next call of a thread, which leaves this state. Where it is taken back, the search
-    /// goes on at the thread `next`.
+    /// Places the next call of a thread, which leaves this state. Where it is taken back, the
+    /// search goes on at the thread `next`.
     pub fn place(&mut self, thread: usize, next: usize, state: S) -> Result<(), AllocError>
         requires below { thread < length self.old.front.items }
         requires fits { spec.placed self.old.front.items thread + 1 < 2 ^ 64 }

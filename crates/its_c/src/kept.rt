@@ -3,22 +3,24 @@ ghost use Rattle.std.specs.Prelude.{◌≡◌};
 ghost use Rattle.owned_machine.specs.Lent.{on};
 ghost use Rattle.its_c.specs.Keeping as spec;
 
+use crate::room::{has_room, is_within, missing};
 use dma_routes::route;
 use guest_windows::{Memory, Outside};
-use its_numbers::MapLimits;
+use its_numbers::GuestLimits;
 use its_plain::{Bytes64, Call, Desc, Reply, Route, SaveError, StepReply};
 use its_types::Addr;
 use owned_machine::Machine;
 use std::alloc::{AllocError, Global};
 use std::marker::Model;
 use step_views::{adds_device_on, adds_event_on, device_count, event_count};
+use table_save::written_tables;
 
 /// What a handle has.
 #[derive(Drop)]
 pub struct Kept {
     machine: Machine,
     desc: Desc,
-    limits: MapLimits,
+    limits: GuestLimits,
 }
 
 impl Model for Kept {
@@ -51,7 +53,7 @@ impl Kept {
     ghost use Rattle.std.specs.Prelude.{Ok, Err, is_ok, length, map, replicate};
     ghost use Rattle.dma_routes.specs.Routes.{AreDevices};
     ghost use Rattle.guest_windows.specs.Windows.{inside, extent};
-    ghost use Rattle.its_c.specs.Keeping.{with_machine, is_full, is_over, maps_none};
+    ghost use Rattle.its_c.specs.Keeping.{with_machine, no_limit, is_full, is_over, maps_none};
     ghost use Rattle.its_c.specs.declared.kept.StepError.TheVariants.{Full, NoMemory};
     ghost use Rattle.its_plain.specs.Answer as plain;
     ghost use Rattle.its_plain.specs.Doorbells.{route_of, dma_of};
@@ -61,7 +63,7 @@ impl Kept {
     ghost use Rattle.owned_machine.specs.Whole.{may_want_memory, step_adds};
 
     /// A machine, the description that it was made from but for its fills, and its limits.
-    pub fn new(machine: Machine, desc: Desc, limits: MapLimits) -> Kept
+    pub fn new(machine: Machine, desc: Desc, limits: GuestLimits) -> Kept
         requires translators { length desc.translators ≤ 2 }
         requires devices { AreDevices desc.requesters }
         ensures machine { result.machine ≡ machine }
@@ -83,14 +85,14 @@ impl Kept {
     }
 
     /// How much may be mapped.
-    pub fn limits(&self) -> MapLimits
+    pub fn limits(&self) -> GuestLimits
         ensures { result ≡ self.now.limits }
     {
         self.limits
     }
 
     /// How much may be mapped from now on.
-    pub fn set_limits(&mut self, limits: MapLimits)
+    pub fn set_limits(&mut self, limits: GuestLimits)
         ensures machine { self.new.machine ≡ self.old.machine }
         ensures desc { self.new.desc ≡ self.old.desc }
         ensures limits { self.new.limits ≡ limits }
@@ -108,6 +110,53 @@ impl Kept {
                 self.limits.devices,
                 u64::from(device_count(self.machine.parts(), 0)),
             )
+    }
+
+    /// Whether as many bytes of guest memory are held as may be, or fewer.
+    pub fn is_within(&self) -> bool
+        ensures { self.now.limits.memory ≡ no_limit → result ≡ true }
+    {
+        is_within(&self.machine.parts().memory, self.limits.memory)
+    }
+
+    /// Whether the pages of some bytes may be held besides.
+    pub fn has_room(&self, address: u64, length: u64) -> bool
+        ensures { self.now.limits.memory ≡ no_limit → result ≡ true }
+    {
+        let memory = &self.machine.parts().memory;
+        let limit = self.limits.memory;
+        limit == u64::MAX || has_room(memory, limit, missing(memory, address, length))
+    }
+
+    /// Whether a requester's write at an address is none of guest memory, or its pages may be held
+    /// besides.
+    pub fn has_room_for(&self, req: u32, addr: Addr, bytes: &Bytes64) -> bool
+        ensures { self.now.limits.memory ≡ no_limit → result ≡ true }
+    {
+        let length = bytes.as_slice().len() as u64;
+        match route(&self.desc, req, addr, bytes) {
+            Route::Poke => {
+                !self.machine.parts().memory.inside(addr, length) || self.has_room(addr.0, length)
+            }
+            Route::Signal { .. } | Route::NoRequester | Route::Frame => true,
+        }
+    }
+
+    /// Whether the pages of the tables that a save writes may be held besides.
+    pub fn has_room_for_tables(&self, alloc: Global) -> Result<bool, AllocError>
+        ensures { self.now.limits.memory ≡ no_limit → result ≡ Ok true }
+    {
+        let limit = self.limits.memory;
+        if limit == u64::MAX {
+            return Ok(true);
+        }
+        let parts = self.machine.parts();
+        let tables = written_tables(alloc, &parts.in_place())?;
+        let mut pages: u64 = 0;
+        for table in &tables {
+            pages = pages.saturating_add(missing(&parts.memory, table.0.0, table.1));
+        }
+        Ok(has_room(&parts.memory, limit, pages))
     }
 
     /// Answers a call that is no step.
@@ -233,7 +282,7 @@ impl Kept {
 }
 
 // Whether the next step would map another event or device, where as many are mapped as may be.
-fn is_full(machine: &Machine, limits: &MapLimits) -> bool
+fn is_full(machine: &Machine, limits: &GuestLimits) -> bool
     ensures { result ≡ spec.is_full limits.now machine.now }
 {
     is_full_on(machine, &machine.parts().memory, limits)
@@ -241,7 +290,7 @@ fn is_full(machine: &Machine, limits: &MapLimits) -> bool
 
 // So of a step on other memory. Only at a limit is the command looked at.
 #[tactic(auto, unfolding(crate::specs::Keeping::is_full))]
-fn is_full_on(machine: &Machine, memory: &Memory, limits: &MapLimits) -> bool
+fn is_full_on(machine: &Machine, memory: &Memory, limits: &GuestLimits) -> bool
     ensures { result ≡ spec.is_full limits.now (on memory.now machine.now) }
 {
     let parts = machine.parts();

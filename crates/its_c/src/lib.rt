@@ -27,6 +27,7 @@ mod pending;
 mod pieces;
 mod ranges;
 mod registers;
+mod room;
 mod saves;
 mod step_calls;
 mod stretches;

@@ -1,16 +1,26 @@
 //! Limits of what is mapped: at each, one past it, and at a restore; and a step on lent bytes.
-use crate::calls::{its_signal, its_write_register};
+use crate::calls::{its_dma, its_signal, its_write_register};
 use crate::handle::Handle;
 use crate::making::{its_free, its_new};
-use crate::memory_calls::{its_forget, its_next_page, its_read_memory};
-use crate::step_calls::{its_limits, its_needs_of, its_step, its_step_with};
-use crate::tests::{FILLS, NO_STEP, NUMBERS, PENDING, WINDOWS, drive};
+use crate::memory_calls::{its_forget, its_next_page, its_read_memory, its_write_memory};
+use crate::step_calls::{its_limits, its_migrate, its_needs_of, its_save, its_step, its_step_with};
+use crate::tests::{FILLS, NO_SAVE_FAULT, NO_STEP, NUMBERS, PENDING, WINDOWS, drive};
 use its_numbers::{
-    DONE, DescriptionIn, FULL, FillIn, HANDLE, NO_FAULT, RANGE, SignalOut, StretchOut,
+    DONE, DescriptionIn, DmaOut, FULL, FillIn, HANDLE, NO_FAULT, OUTSIDE, RANGE, SignalOut,
+    StretchOut,
 };
 use std::alloc::Global;
 
 const NONE: u64 = u64::MAX;
+
+const NO_DMA: DmaOut = DmaOut {
+    outcome: 9,
+    signal: SignalOut {
+        cause: 9,
+        vcpu: 9,
+        intid: 9,
+    },
+};
 
 fn made(
     alloc: Global,
@@ -75,16 +85,66 @@ fn commands(rt: HostRuntime) {
 fn limits_that_change(rt: HostRuntime) {
     let alloc = rt.alloc();
     let mut handle = Handle::empty(alloc);
-    assert_eq!(rt; its_limits(&mut handle, 0, 0), HANDLE);
+    assert_eq!(rt; its_limits(&mut handle, 0, 0, NONE), HANDLE);
     assert_eq!(rt;
         made(alloc, &mut handle, &limited(0, 1), &FILLS, &[0xa1]),
         DONE
     );
     assert_eq!(rt; drive(alloc, &mut handle), 2);
-    assert_eq!(rt; its_limits(&mut handle, 1, 0), DONE);
+    assert_eq!(rt; its_limits(&mut handle, 1, 0, NONE), DONE);
     let mut step = NO_STEP;
     assert_eq!(rt; its_step(&mut handle, alloc, &mut step), DONE);
     assert_eq!(rt; step.outcome, 1);
+    assert_eq!(rt; its_free(&mut handle, alloc), DONE);
+}
+
+// What a new machine answers, whose fill is in one page.
+fn filled(alloc: Global, memory: u64) -> (u32, u32) {
+    let numbers = DescriptionIn {
+        memory_limit: memory,
+        ..NUMBERS
+    };
+    let mut handle = Handle::empty(alloc);
+    let code = made(alloc, &mut handle, &numbers, &FILLS, &[0xa1]);
+    (code, its_free(&mut handle, alloc))
+}
+
+fn written(alloc: Global, handle: &mut Handle, address: u64) -> u32 {
+    its_write_memory(handle, alloc, address, &[1])
+}
+
+// A page of 64 KiB is held by the fill at 0x8003_0000. Bytes that aren't in a page that is held
+// may be counted as one page more.
+#[test]
+fn memory(rt: HostRuntime) {
+    let alloc = rt.alloc();
+    assert_eq!(rt; filled(alloc, 0xffff), (FULL, HANDLE));
+    assert_eq!(rt; filled(alloc, 0x1_0000), (DONE, DONE));
+    let mut handle = Handle::empty(alloc);
+    assert_eq!(rt; made(alloc, &mut handle, &NUMBERS, &FILLS, &[0xa1]), DONE);
+    assert_eq!(rt; its_limits(&mut handle, NONE, NONE, 0x3_0000), DONE);
+    assert_eq!(rt; written(alloc, &mut handle, 0x8000_0000), DONE);
+    assert_eq!(rt; written(alloc, &mut handle, 0x8000_ffff), DONE);
+    assert_eq!(rt; written(alloc, &mut handle, 0x8001_0000), FULL);
+    assert_eq!(rt; written(alloc, &mut handle, 0x8020_0000), OUTSIDE);
+    let mut out = NO_DMA;
+    assert_eq!(rt;
+        its_dma(&mut handle, alloc, 1, 0x8001_0000, &[1], &mut out),
+        FULL
+    );
+    assert_eq!(rt;
+        its_dma(&mut handle, alloc, 1, 0x8003_0000, &[1], &mut out),
+        DONE
+    );
+    assert_eq!(rt; its_forget(&mut handle, 0x8000_0000, 0x1_0000), DONE);
+    assert_eq!(rt; written(alloc, &mut handle, 0x8001_0000), DONE);
+    assert_eq!(rt; written(alloc, &mut handle, 0x8000_0000), FULL);
+    let mut fault = NO_SAVE_FAULT;
+    assert_eq!(rt; drive(alloc, &mut handle), 0);
+    assert_eq!(rt; its_save(&mut handle, alloc, &mut fault), FULL);
+    assert_eq!(rt; its_migrate(&mut handle, alloc, &mut fault), FULL);
+    assert_eq!(rt; its_limits(&mut handle, NONE, NONE, NONE), DONE);
+    assert_eq!(rt; its_save(&mut handle, alloc, &mut fault), DONE);
     assert_eq!(rt; its_free(&mut handle, alloc), DONE);
 }
 
@@ -195,13 +255,13 @@ fn lent_bytes(rt: HostRuntime) {
         its_step_with(&mut handle, alloc, &LENT, &[0; 32], &mut step),
         RANGE
     );
-    assert_eq!(rt; its_limits(&mut handle, 1, NONE), DONE);
+    assert_eq!(rt; its_limits(&mut handle, 1, NONE, NONE), DONE);
     assert_eq!(rt;
         its_step_with(&mut handle, alloc, &LENT, &LENT_BYTES, &mut step),
         FULL
     );
     assert_eq!(rt; step.outcome, 9);
-    assert_eq!(rt; its_limits(&mut handle, 2, NONE), DONE);
+    assert_eq!(rt; its_limits(&mut handle, 2, NONE, NONE), DONE);
     assert_eq!(rt;
         its_step_with(&mut handle, alloc, &LENT, &LENT_BYTES, &mut step),
         DONE

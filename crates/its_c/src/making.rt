@@ -5,17 +5,18 @@ ghost use Rattle.its_plain.specs.Described.{IsFirstState, IsMadeFrom};
 ghost use Rattle.its_plain.specs.Machine.{IsDescription};
 ghost use Rattle.its_numbers.specs.Codes as codes;
 ghost use Rattle.its_numbers.specs.Descriptions.{is_in_range as in_range, description_of};
-ghost use Rattle.its_numbers.specs.Descriptions.{map_limits_of};
+ghost use Rattle.its_numbers.specs.Descriptions.{guest_limits_of};
 ghost use Rattle.its_c.specs.Keeping.{is_over, kept_of};
-ghost use Rattle.its_c.specs.Making.{IsMade, IsTooMuch};
+ghost use Rattle.its_c.specs.Making.{IsMade, IsTooMuch, IsTooMuchIn};
 ghost use Rattle.its_numbers.specs.Unmade.{IsUnmade};
 
 use crate::handle::Handle;
 use crate::kept::Kept;
 use dma_routes::requesters_are_devices;
 use its_numbers::{
-    DONE, DescriptionIn, FAULT, FULL, FillIn, HANDLE, MakeFaultOut, MapLimits, NO_MEMORY, RANGE,
-    RedistributorIn, RequestersIn, WindowIn, description, is_in_range, make_fault_out, map_limits,
+    DONE, DescriptionIn, FAULT, FULL, FillIn, GuestLimits, HANDLE, MakeFaultOut, NO_MEMORY, RANGE,
+    RedistributorIn, RequestersIn, WindowIn, description, guest_limits, is_in_range,
+    make_fault_out,
 };
 use its_plain::{Desc, MakeError};
 use its_types::Listed;
@@ -49,11 +50,11 @@ pub extern "C" fn its_new(
         (length bytes.now) ≡ false }
     ensures done { result ≡ codes.done
         → IsMade (description_of numbers.now windows.now pending.now redistributors.now
-        requesters.now fills.now bytes.now) (map_limits_of numbers.now) handle.new.machine }
+        requesters.now fills.now bytes.now) (guest_limits_of numbers.now) handle.new.machine }
     ensures same { result ≢ codes.done → handle.new ≡ handle.old }
     ensures full { result ≡ codes.full
         → IsTooMuch (description_of numbers.now windows.now pending.now redistributors.now
-        requesters.now fills.now bytes.now) (map_limits_of numbers.now) }
+        requesters.now fills.now bytes.now) (guest_limits_of numbers.now) }
     ensures untold { result ≡ codes.full → fault.new ≡ fault.old }
     ensures unmade { result ≢ codes.full → IsUnmade result
         (description_of numbers.now windows.now pending.now redistributors.now requesters.now
@@ -83,7 +84,7 @@ pub extern "C" fn its_new(
     ) else {
         return NO_MEMORY;
     };
-    match made(alloc, desc, map_limits(numbers)) {
+    match made(alloc, desc, guest_limits(numbers)) {
         Ok(kept) => put(handle, kept),
         Err(MakeError::NoMemory) => NO_MEMORY,
         Err(MakeError::Fault(found)) => {
@@ -94,7 +95,7 @@ pub extern "C" fn its_new(
 }
 
 // A machine on the heap, which may map more than may be.
-fn made(alloc: Global, mut desc: Desc, limits: MapLimits) -> Result<Box<Kept>, MakeError>
+fn made(alloc: Global, mut desc: Desc, limits: GuestLimits) -> Result<Box<Kept>, MakeError>
     requires description { IsDescription desc }
     ensures state { IfOk result (λ b. IsFirstState desc b.value.machine) }
     ensures desc { IfOk result (λ b. b.value.desc ≡ kept_of desc) }
@@ -114,9 +115,9 @@ fn put(handle: &mut Handle, kept: Box<Kept>) -> u32
     ensures done { result ≡ codes.done → (handle.new.machine ≡ Some kept.value)
         × (is_over kept.value.limits kept.value.machine ≡ false) }
     ensures full { result ≡ codes.full → (handle.new ≡ handle.old)
-        × (is_over kept.value.limits kept.value.machine ≡ true) }
+        × IsTooMuchIn kept.value.limits kept.value.machine }
 {
-    if kept.is_over() {
+    if kept.is_over() || !kept.is_within() {
         return FULL;
     }
     *handle = Handle::of(kept);

@@ -4,7 +4,7 @@ ghost use Rattle.its_plain.specs.Answer.{step_reply, step_left};
 ghost use Rattle.owned_machine.specs.Whole.{step_adds};
 ghost use Rattle.its_numbers.specs.Codes as codes;
 ghost use Rattle.its_c.specs.Held.{InMachine, InHeld, beside};
-ghost use Rattle.its_c.specs.Keeping.{is_full};
+ghost use Rattle.its_c.specs.Keeping.{is_full, no_limit};
 ghost use Rattle.its_c.specs.Concerns.{UnconcernedStay, AreConcerned, IsStepCode, IsLentStepCode};
 ghost use Rattle.its_c.specs.LentBytes.{stretches_fit, lent, lent_left};
 ghost use Rattle.its_numbers.specs.Replies as replies;
@@ -17,7 +17,7 @@ use crate::commands::{step, step_with};
 use crate::handle::Handle;
 use crate::saves::{migrate, save};
 use crate::stretches::{needed, needed_by, written};
-use its_numbers::{DONE, HANDLE, MapLimits, SaveFaultOut, StepOut, StretchOut};
+use its_numbers::{DONE, GuestLimits, HANDLE, SaveFaultOut, StepOut, StretchOut};
 use std::alloc::Global;
 
 /// The stretches of guest memory that the next step reads: as many as the list takes, whose rest
@@ -153,7 +153,7 @@ pub extern "C" fn its_limit(handle: &mut Handle, events: u64) -> u32
         return HANDLE;
     }
     let kept = handle.lent();
-    let limits = MapLimits {
+    let limits = GuestLimits {
         events,
         ..kept.limits()
     };
@@ -161,19 +161,24 @@ pub extern "C" fn its_limit(handle: &mut Handle, events: u64) -> u32
     DONE
 }
 
-/// How many events and how many devices may be mapped from now on.
+/// How many events and how many devices may be mapped, and how many bytes of guest memory held, from
+/// now on.
 #[unsafe(no_mangle)]
-pub extern "C" fn its_limits(handle: &mut Handle, events: u64, devices: u64) -> u32
+pub extern "C" fn its_limits(handle: &mut Handle, events: u64, devices: u64, memory: u64) -> u32
     ensures empty { handle.old.machine ≡ None → result ≡ codes.handle }
     ensures kept { is_some handle.new.machine ≡ is_some handle.old.machine }
     ensures done { InMachine handle.old handle.new (λ u w. result ≡ codes.done) }
     ensures left { InHeld handle.old handle.new (λ h k.
-        k ≡ record h { limits = record { events = events; devices = devices } }) }
+        k ≡ record h { limits = record { events = events; devices = devices; memory = memory } }) }
 {
     if handle.is_empty() {
         return HANDLE;
     }
-    handle.lent().set_limits(MapLimits { events, devices });
+    handle.lent().set_limits(GuestLimits {
+        events,
+        devices,
+        memory,
+    });
     DONE
 }
 
@@ -185,6 +190,8 @@ pub extern "C" fn its_save(handle: &mut Handle, alloc: Global, fault: &mut SaveF
     ensures done { InMachine handle.old handle.new (λ u w. result ≡ codes.done → IsSaved u w) }
     ensures otherwise { InMachine handle.old handle.new (λ u w.
         IsUnsaved result u w fault.old fault.new) }
+    ensures full { InHeld handle.old handle.new (λ h k.
+        result ≡ codes.full → h.limits.memory ≢ no_limit) }
 {
     if handle.is_empty() {
         return HANDLE;
@@ -201,6 +208,8 @@ pub extern "C" fn its_migrate(handle: &mut Handle, alloc: Global, fault: &mut Sa
     ensures done { InMachine handle.old handle.new (λ u w. result ≡ codes.done → IsMoved u w) }
     ensures otherwise { InMachine handle.old handle.new (λ u w.
         IsUnsaved result u w fault.old fault.new) }
+    ensures full { InHeld handle.old handle.new (λ h k.
+        result ≡ codes.full → h.limits.memory ≢ no_limit) }
 {
     if handle.is_empty() {
         return HANDLE;

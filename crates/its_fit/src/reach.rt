@@ -51,8 +51,8 @@ fn only_reads(call: &Call) -> bool
     }
 }
 
-/// What a call reaches. A signal goes to a virtual processor that the maps tell, and a step may take
-/// any command.
+/// What a call reaches. A signal goes to a virtual processor that the maps tell, and a step may
+/// take any command.
 fn reach_of(call: &Call) -> Reach
     ensures { result ≡ spec.reach_of call.now }
 {

@@ -15,7 +15,7 @@ use Rattle.its_plain.specs.declared.desc.Its.{Its}
 use Rattle.its_plain.specs.declared.desc.LpiTables.{LpiTables}
 use Rattle.its_plain.specs.declared.desc.LpiTables.TheVariants.{Described, Registers}
 use Rattle.its_plain.specs.declared.desc.Requesters.{Requesters}
-use Rattle.its_numbers.specs.declared.limits.MapLimits.{MapLimits}
+use Rattle.its_numbers.specs.declared.limits.GuestLimits.{GuestLimits}
 use Rattle.its_numbers.specs.declared.numbers.DescriptionIn.{DescriptionIn}
 use Rattle.its_numbers.specs.declared.numbers.FillIn.{FillIn}
 use Rattle.its_numbers.specs.declared.numbers.RedistributorIn.{RedistributorIn}
@@ -112,7 +112,7 @@ description_of d windows pending redistributors requesters fills bytes = record 
   track = false;
 }
 
--- ---- how much may be mapped
+-- ---- how much a guest may take
 
-abbrev pub map_limits_of : DescriptionIn → MapLimits
-map_limits_of d = record { events = d.event_limit; devices = d.device_limit }
+abbrev pub guest_limits_of : DescriptionIn → GuestLimits
+guest_limits_of d = record { events = d.event_limit; devices = d.device_limit; memory = d.memory_limit }

@@ -43,6 +43,8 @@ pub struct DescriptionIn {
     pub event_limit: u64,
     /// How many devices may be mapped; 2^64 - 1: as many as there are.
     pub device_limit: u64,
+    /// How many bytes of guest memory may be held; 2^64 - 1: as many as are written.
+    pub memory_limit: u64,
 }
 
 /// A window of guest memory, which is all zeros at first.

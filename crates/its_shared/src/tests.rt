@@ -36,6 +36,7 @@ const NUMBERS: DescriptionIn = DescriptionIn {
     baser1: 0,
     event_limit: u64::MAX,
     device_limit: u64::MAX,
+    memory_limit: u64::MAX,
 };
 
 // 2 MiB.

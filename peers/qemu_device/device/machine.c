@@ -53,7 +53,7 @@ static struct its_description_in description(BacciledruIts *s, Source source)
         .programmed = 1, .restored = source != FROM_NOTHING, .linux_guest = 1,
         .ctlr = its->ctlr, .cbaser = its->cbaser, .creadr = its->creadr,
         .cwriter = its->cwriter, .baser0 = its->baser[0], .baser1 = its->baser[1],
-        .event_limit = EVENTS, .device_limit = UINT64_MAX,
+        .event_limit = EVENTS, .device_limit = UINT64_MAX, .memory_limit = UINT64_MAX,
     };
 }
 

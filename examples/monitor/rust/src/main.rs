@@ -36,6 +36,7 @@ fn numbers() -> Description {
         frames: FRAMES,
         event_limit: u64::MAX,
         device_limit: u64::MAX,
+        memory_limit: u64::MAX,
         ..Description::default()
     }
 }

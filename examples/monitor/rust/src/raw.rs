@@ -28,6 +28,7 @@ pub struct Description {
     pub baser1: u64,
     pub event_limit: u64,
     pub device_limit: u64,
+    pub memory_limit: u64,
 }
 
 #[repr(C)]
