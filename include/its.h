@@ -557,9 +557,10 @@ uint32_t its_list_collections(struct its_handle *handle, uint32_t from,
  *
  * No call waits. Where another pass has a part that it needs (the maps, guest memory, a shard of the cache,
  * one of a processor's two parts), or makes a call meanwhile, it answers ITS_BUSY: nothing happened, and the
- * same call may be made again. its_wait.h has how to wait between two tries. ITS_SPENT comes after 2^40 - 1
- * calls: no call of this machine is made any more; save by then, and make another. What a call tells is as
- * it was where it answers neither ITS_DONE, nor ITS_FAULT or ITS_OUTSIDE, which are replies with a place.
+ * same call may be made again. its_wait.h has how to wait between two tries. A place has 56 bits: ITS_SPENT
+ * comes after 2^56 - 1 calls, and no call of this machine is made any more then. That is two thousand years
+ * at a million calls a second. What a call tells is as it was where it answers neither ITS_DONE, nor
+ * ITS_FAULT or ITS_OUTSIDE, which are replies with a place.
  */
 struct its_pass {
     void *at;
@@ -649,7 +650,8 @@ uint32_t its_pass_save(struct its_pass *pass, uint64_t *place, struct its_save_f
  * how many calls the history has, and what is told is so after just these. ITS_SPENT isn't answered, and
  * ITS_BUSY only where another pass has a part that is needed: the maps, of its_pass_event also what is
  * pending at the target; of its_pass_pending and its_pass_stored_lpi_registers one of the processor's two
- * alone; of its_pass_needs and its_pass_written all but the cache. ITS_HANDLE.
+ * alone; of its_pass_needs the maps and guest memory, and where the next command reads configurations those
+ * of all processors; of its_pass_written all but the cache. ITS_HANDLE.
  */
 uint32_t its_pass_event(struct its_pass *pass, uint32_t device, uint32_t event, uint64_t *place,
                         struct its_event_out *out);

@@ -1,1 +1,5 @@
+mod Keys
 mod Lent
+mod NextCommand
+mod Steps
+mod Texts

@@ -1,1 +1,12 @@
+pub mod Acks
+pub mod Book
+pub mod Events
+pub mod Facts
+pub mod Looks
+pub mod Mappings
+pub mod Numbers
+pub mod Signals
+pub mod Steps
+pub mod Taken
 pub mod Views
+pub mod Watched

@@ -1,11 +1,15 @@
 //! What acknowledgements came to, for people.
+ghost use Rattle.std.specs.Prelude.{◌≡◌, ◌++◌, OnOk};
+ghost use Rattle.std.specs.String.{string_bytes};
+ghost use Rattle.its_explain.specs.Acks as spec;
+
 use crate::facts::Fact;
+use crate::numbers::{push_hex_byte, push_small, push_wide};
 use crate::sources::Sources;
 use call_facts::{LpiState, Waiting};
 use its_plain::{Ack, Call};
-use its_types::{Intid, Vcpu};
+use its_types::{Bases, Intid, Vcpu};
 use std::alloc::AllocError;
-use std::fmt::Write;
 
 /// Adds what an acknowledgement, or a look at what there is to acknowledge, came to.
 pub fn push_ack(
@@ -14,97 +18,255 @@ pub fn push_ack(
     call: &Call,
     ack: Ack,
 ) -> Result<(), AllocError> {
+    let (machine, fact) = (sources.machine, &sources.fact);
     match *call {
-        Call::Take(vcpu) => match ack {
-            Ack::Some { .. } => {
-                push_lowest(out, vcpu)?;
-                out.push_str(", and not pending any more")
-            }
-            Ack::None => push_none(out, sources, vcpu, None),
-        },
-        Call::Show(vcpu) => match ack {
-            Ack::Some { .. } => push_lowest(out, vcpu),
-            Ack::None => push_none(out, sources, vcpu, None),
-        },
-        Call::Best { vcpu, mask } => match ack {
-            Ack::Some { .. } => write!(
-                out,
-                "the first by priority at processor {vcpu}, of those below 0x{mask:x}"
-            ),
-            Ack::None => push_none(out, sources, vcpu, Some(mask)),
-        },
-        Call::Claim { vcpu, intid } => push_claim(out, sources, vcpu, intid, ack),
+        Call::Take(vcpu) => push_take(out, machine.bases(vcpu), fact, vcpu, ack),
+        Call::Show(vcpu) => push_show(out, machine.bases(vcpu), fact, vcpu, ack),
+        Call::Best { vcpu, mask } => push_best(out, machine.bases(vcpu), fact, vcpu, mask, ack),
+        Call::Claim { vcpu, intid } => push_claim(out, fact, vcpu, intid, ack),
         _ => Ok(()),
     }
 }
 
-fn push_lowest(out: &mut String, vcpu: Vcpu) -> Result<(), AllocError> {
-    write!(
+/// Adds what the acknowledgement of the lowest came to.
+pub fn push_take(
+    out: &mut String,
+    bases: Option<Bases>,
+    fact: &Fact,
+    vcpu: Vcpu,
+    ack: Ack,
+) -> Result<(), AllocError>
+    ensures { OnOk result (string_bytes out.new
+        ≡ string_bytes out.old ++ spec.take_text bases fact.now vcpu.0 ack) }
+{
+    match ack {
+        Ack::Some { .. } => push_taken(out, vcpu),
+        Ack::None => push_none_of(out, bases, vcpu, None, fact.waiting()),
+    }
+}
+
+/// Adds what a look at the lowest came to.
+pub fn push_show(
+    out: &mut String,
+    bases: Option<Bases>,
+    fact: &Fact,
+    vcpu: Vcpu,
+    ack: Ack,
+) -> Result<(), AllocError>
+    ensures { OnOk result (string_bytes out.new
+        ≡ string_bytes out.old ++ spec.show_text bases fact.now vcpu.0 ack) }
+{
+    match ack {
+        Ack::Some { .. } => push_lowest(out, vcpu),
+        Ack::None => push_none_of(out, bases, vcpu, None, fact.waiting()),
+    }
+}
+
+/// Adds what a look at the first by priority came to, of those below a mask.
+pub fn push_best(
+    out: &mut String,
+    bases: Option<Bases>,
+    fact: &Fact,
+    vcpu: Vcpu,
+    mask: u8,
+    ack: Ack,
+) -> Result<(), AllocError>
+    ensures { OnOk result (string_bytes out.new
+        ≡ string_bytes out.old ++ spec.first_below_text bases fact.now vcpu.0 mask ack) }
+{
+    match ack {
+        Ack::Some { .. } => push_first_below(out, vcpu, mask),
+        Ack::None => push_none_of(out, bases, vcpu, Some(mask), fact.waiting()),
+    }
+}
+
+#[tactic(auto, unfolding(crate::specs::Acks::taken_text))]
+fn push_taken(out: &mut String, vcpu: Vcpu) -> Result<(), AllocError>
+    ensures { OnOk result (string_bytes out.new ≡ string_bytes out.old ++ spec.taken_text vcpu.0) }
+{
+    push_lowest(out, vcpu)?;
+    out.push_str(", and not pending any more")
+}
+
+#[tactic(auto, unfolding(crate::specs::Acks::best_text))]
+fn push_first_below(out: &mut String, vcpu: Vcpu, mask: u8) -> Result<(), AllocError>
+    ensures { OnOk result
+        (string_bytes out.new ≡ string_bytes out.old ++ spec.best_text vcpu.0 mask) }
+{
+    push_small(out, "the first by priority at processor ", vcpu.0)?;
+    push_hex_byte(out, ", of those below ", mask)
+}
+
+#[tactic(auto, unfolding(crate::specs::Acks::lowest_text))]
+fn push_lowest(out: &mut String, vcpu: Vcpu) -> Result<(), AllocError>
+    ensures { OnOk result (string_bytes out.new ≡ string_bytes out.old ++ spec.lowest_text vcpu.0) }
+{
+    push_small(
         out,
-        "the lowest that is pending and enabled at processor {vcpu}"
+        "the lowest that is pending and enabled at processor ",
+        vcpu.0,
     )
 }
 
 /// Adds why there is no LPI to acknowledge.
-fn push_none(
+fn push_none_of(
     out: &mut String,
-    sources: &Sources,
+    bases: Option<Bases>,
     vcpu: Vcpu,
     mask: Option<u8>,
-) -> Result<(), AllocError> {
-    let Fact::Waiting(waiting) = sources.fact else {
-        return Ok(());
-    };
+    waiting: Option<Waiting>,
+) -> Result<(), AllocError>
+    ensures { OnOk result (string_bytes out.new
+        ≡ string_bytes out.old ++ spec.none_of bases vcpu.0 mask waiting) }
+{
     match waiting {
-        Waiting::Nothing => push_nothing(out, sources, vcpu),
+        Some(waiting) => push_none(out, bases, vcpu, mask, waiting),
+        None => Ok(()),
+    }
+}
+
+fn push_none(
+    out: &mut String,
+    bases: Option<Bases>,
+    vcpu: Vcpu,
+    mask: Option<u8>,
+    waiting: Waiting,
+) -> Result<(), AllocError>
+    ensures { OnOk result (string_bytes out.new
+        ≡ string_bytes out.old ++ spec.none_text bases vcpu.0 mask waiting) }
+{
+    match waiting {
+        Waiting::Nothing => push_nothing(out, bases, vcpu),
         Waiting::NotEnabled(intid) => push_not_enabled(out, vcpu, intid),
-        Waiting::Enabled { intid, priority } => {
-            write!(
-                out,
-                "the first at processor {vcpu} is LPI {intid} of priority 0x{priority:x}"
-            )?;
-            match mask {
-                Some(mask) => write!(out, ", which isn't below 0x{mask:x}"),
-                None => Ok(()),
-            }
-        }
+        Waiting::Enabled { intid, priority } => push_first(out, vcpu, intid, priority, mask),
     }
 }
 
-fn push_nothing(out: &mut String, sources: &Sources, vcpu: Vcpu) -> Result<(), AllocError> {
-    write!(out, "no LPI is pending at processor {vcpu}")?;
-    match sources.machine.bases(vcpu) {
-        Some(bases) if !bases.on => {
-            out.push_str(": LPIs are off there (EnableLPIs of GICR_CTLR, section 12.11)")
-        }
-        _ => out.push_str(" (section 5.1)"),
+#[tactic(auto, unfolding(crate::specs::Acks::first_text))]
+fn push_first(
+    out: &mut String,
+    vcpu: Vcpu,
+    intid: Intid,
+    priority: u8,
+    mask: Option<u8>,
+) -> Result<(), AllocError>
+    ensures { OnOk result (string_bytes out.new
+        ≡ string_bytes out.old ++ spec.first_text vcpu.0 intid.0 priority mask) }
+{
+    push_small(out, "the first at processor ", vcpu.0)?;
+    push_wide(out, " is LPI ", intid.0)?;
+    push_hex_byte(out, " of priority ", priority)?;
+    push_mask(out, mask)
+}
+
+fn push_mask(out: &mut String, mask: Option<u8>) -> Result<(), AllocError>
+    ensures { OnOk result (string_bytes out.new ≡ string_bytes out.old ++ spec.below_text mask) }
+{
+    match mask {
+        Some(mask) => push_hex_byte(out, ", which isn't below ", mask),
+        None => Ok(()),
     }
 }
 
-fn push_not_enabled(out: &mut String, vcpu: Vcpu, intid: Intid) -> Result<(), AllocError> {
-    write!(
-        out,
-        "LPI {intid} is pending at processor {vcpu}, and not enabled: "
-    )?;
+#[tactic(auto, unfolding(crate::specs::Acks::nothing_text))]
+fn push_nothing(out: &mut String, bases: Option<Bases>, vcpu: Vcpu) -> Result<(), AllocError>
+    ensures { OnOk result
+        (string_bytes out.new ≡ string_bytes out.old ++ spec.nothing_text bases vcpu.0) }
+{
+    push_small(out, "no LPI is pending at processor ", vcpu.0)?;
+    push_off(out, bases)
+}
+
+fn push_off(out: &mut String, bases: Option<Bases>) -> Result<(), AllocError>
+    ensures { OnOk result (string_bytes out.new ≡ string_bytes out.old ++ spec.off_text bases) }
+{
+    match bases {
+        Some(bases) => push_switch(out, bases.on),
+        None => push_switch(out, true),
+    }
+}
+
+fn push_switch(out: &mut String, on: bool) -> Result<(), AllocError>
+    ensures { OnOk result (string_bytes out.new ≡ string_bytes out.old ++ spec.switch_text on) }
+{
+    if on {
+        out.push_str(" (section 5.1)")
+    } else {
+        out.push_str(": LPIs are off there (EnableLPIs of GICR_CTLR, section 12.11)")
+    }
+}
+
+#[tactic(auto, unfolding(crate::specs::Acks::not_enabled_text))]
+fn push_not_enabled(out: &mut String, vcpu: Vcpu, intid: Intid) -> Result<(), AllocError>
+    ensures { OnOk result
+        (string_bytes out.new ≡ string_bytes out.old ++ spec.not_enabled_text vcpu.0 intid.0) }
+{
+    push_wide(out, "LPI ", intid.0)?;
+    push_small(out, " is pending at processor ", vcpu.0)?;
+    out.push_str(", and not enabled: ")?;
     out.push_str("bit 0 of its configuration byte was 0 when that was last read (section 5.1.1)")
 }
 
-fn push_claim(
+/// Adds what the acknowledgement of one LPI came to.
+pub fn push_claim(
     out: &mut String,
-    sources: &Sources,
+    fact: &Fact,
     vcpu: Vcpu,
     intid: Intid,
     ack: Ack,
-) -> Result<(), AllocError> {
-    if ack != Ack::None {
-        return write!(
-            out,
-            "it was pending and enabled at processor {vcpu}, and isn't pending any more"
-        );
+) -> Result<(), AllocError>
+    ensures { OnOk result (string_bytes out.new
+        ≡ string_bytes out.old ++ spec.claim_text fact.now vcpu.0 intid.0 ack) }
+{
+    match ack {
+        Ack::Some { .. } => push_claimed(out, vcpu),
+        Ack::None => push_not_claimed(out, vcpu, intid, fact.claimed()),
     }
-    match sources.fact {
-        Fact::Claimed(Some(LpiState { pending: true, .. })) => push_not_enabled(out, vcpu, intid),
-        Fact::Claimed(Some(_)) => write!(out, "LPI {intid} isn't pending at processor {vcpu}"),
-        _ => write!(out, "{intid} is no LPI's number (section 2.2)"),
+}
+
+#[tactic(auto, unfolding(crate::specs::Acks::claimed_text))]
+fn push_claimed(out: &mut String, vcpu: Vcpu) -> Result<(), AllocError>
+    ensures { OnOk result
+        (string_bytes out.new ≡ string_bytes out.old ++ spec.claimed_text vcpu.0) }
+{
+    push_small(out, "it was pending and enabled at processor ", vcpu.0)?;
+    out.push_str(", and isn't pending any more")
+}
+
+fn push_not_claimed(
+    out: &mut String,
+    vcpu: Vcpu,
+    intid: Intid,
+    state: Option<LpiState>,
+) -> Result<(), AllocError>
+    ensures { OnOk result (string_bytes out.new
+        ≡ string_bytes out.old ++ spec.not_claimed_text vcpu.0 intid.0 state) }
+{
+    match state {
+        Some(state) => {
+            if state.pending {
+                push_not_enabled(out, vcpu, intid)
+            } else {
+                push_not_pending(out, vcpu, intid)
+            }
+        }
+        None => push_no_lpi(out, intid),
     }
+}
+
+#[tactic(auto, unfolding(crate::specs::Acks::not_pending_text))]
+fn push_not_pending(out: &mut String, vcpu: Vcpu, intid: Intid) -> Result<(), AllocError>
+    ensures { OnOk result
+        (string_bytes out.new ≡ string_bytes out.old ++ spec.not_pending_text vcpu.0 intid.0) }
+{
+    push_wide(out, "LPI ", intid.0)?;
+    push_small(out, " isn't pending at processor ", vcpu.0)
+}
+
+#[tactic(auto, unfolding(crate::specs::Acks::no_lpi_text))]
+fn push_no_lpi(out: &mut String, intid: Intid) -> Result<(), AllocError>
+    ensures { OnOk result (string_bytes out.new ≡ string_bytes out.old ++ spec.no_lpi_text intid.0) }
+{
+    push_wide(out, "", intid.0)?;
+    out.push_str(" is no LPI's number (section 2.2)")
 }

@@ -1,4 +1,7 @@
 //! What came of a call: what the machine answered of what the call concerns, before and after it.
+ghost use Rattle.std.specs.Prelude.{◌≡◌};
+ghost use Rattle.its_explain.specs.Facts as spec;
+
 use call_facts::{IdleCause, LpiState, PairState, Waiting, WriteRule};
 use its_command::Command;
 use its_types::{Addr, Bases, Device, DeviceId, EventId, Icid, Vcpu};
@@ -129,6 +132,38 @@ pub enum Fact {
     Written(RegisterFact),
     /// A write of an LPI register.
     LpiWritten(LpiRegisterFact),
+}
+
+impl Fact {
+    /// That of a message, or of a command that names an event.
+    pub fn event(&self) -> Option<EventFact>
+        ensures { result ≡ spec.event_fact self.now }
+    {
+        match *self {
+            Fact::Event(fact) => Some(fact),
+            _ => None,
+        }
+    }
+
+    /// What waited where an LPI was to be acknowledged.
+    pub fn waiting(&self) -> Option<Waiting>
+        ensures { result ≡ spec.waiting_fact self.now }
+    {
+        match *self {
+            Fact::Waiting(waiting) => Some(waiting),
+            _ => None,
+        }
+    }
+
+    /// How an LPI stood that was claimed, if its number was an LPI's.
+    pub fn claimed(&self) -> Option<LpiState>
+        ensures { result ≡ spec.claimed_fact self.now }
+    {
+        match *self {
+            Fact::Claimed(state) => state,
+            _ => None,
+        }
+    }
 }
 
 /// The command that a step took.

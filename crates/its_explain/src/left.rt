@@ -1,4 +1,7 @@
 //! The calls of a leg that aren't made yet.
+ghost use Rattle.std.specs.Prelude.{◌≡◌, ◌<◌, ◌+◌, IfSome, slice_get};
+ghost use Rattle.std.specs.Option.{option_map};
+
 use crate::call_lines::CallLine;
 use event_script::{Calls, Leg};
 use its_plain::Call;
@@ -159,9 +162,17 @@ impl<'a> ThreadLeft<'a> {
         self.made >= self.calls.len()
     }
 
-    fn next(&mut self) -> Option<Next> {
+    fn next(&mut self) -> Option<Next>
+        ensures call { option_map (λ n. n.call) result
+            ≡ slice_get self.old.calls.now self.old.made }
+        ensures goes_on { IfSome result (λ _. self.new.made ≡ self.old.made + 1) }
+        ensures calls { self.new.calls ≡ self.old.calls }
+    {
+        if self.made >= self.calls.len() {
+            return None;
+        }
         let call = self.calls.get(self.made)?;
-        self.made = self.made.saturating_add(1);
+        self.made += 1;
         let line = match self.lines.split_first() {
             Some((line, lines)) => {
                 self.lines = lines;

@@ -3,6 +3,7 @@
 #![tactic(auto)]
 
 mod acks;
+mod authors;
 mod book;
 mod call_lines;
 mod commands;
@@ -19,8 +20,10 @@ mod lines;
 mod looks;
 mod machine_fault;
 mod many;
+mod mappings;
 mod missing;
 mod near;
+mod numbers;
 mod order;
 mod refused;
 mod register_values;

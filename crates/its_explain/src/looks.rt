@@ -1,14 +1,21 @@
 //! Looks at a machine before a call and after it, from which a fact is made.
+ghost use Rattle.std.specs.Prelude.{◌≡◌};
+ghost use Rattle.its_explain.specs.Looks as spec;
+ghost use Rattle.its_explain.specs.Steps.{command_of, taken_at, taken_of};
+ghost use Rattle.std.specs.Option.{option_map};
+
 use crate::facts::{
     CollectionFact, Counts, DeviceFact, EventFact, Fact, LpiRegisterFact, RegisterFact, Taken,
 };
 use crate::replayed::Replayed;
 use call_facts::{LpiState, PairState};
 use cmd_exec::{Met, meet};
+use guest_windows::Memory;
 use its_command::Command;
 use its_maps::Maps;
 use its_plain::{Call, Route};
 use its_types::{Bases, Device, DeviceId, EventId, Icid, Target, Vcpu};
+use owned_parts::TranslatorRef;
 use std::alloc::AllocError;
 
 /// What a call concerns, and what the machine answered of it before.
@@ -59,20 +66,19 @@ pub struct LpiRegisterLook {
 
 impl Replayed {
     /// The command that the next step of a translator takes, if it takes one.
-    pub fn next_command(&self, its: u8) -> Option<Taken> {
-        let translator = self.translator(its)?;
-        match meet(translator.regs, self.memory()) {
-            Met::Still(_) => None,
-            Met::Command(command) => Some(Taken {
-                its,
-                addr: translator.regs.queue_place(),
-                command,
-            }),
+    pub fn next_command(&self, its: u8) -> Option<Taken>
+        ensures { result ≡ taken_at self.now its }
+    {
+        match self.translator(its) {
+            Some(translator) => next_of(translator, its, self.memory()),
+            None => None,
         }
     }
 
     /// Looks at what a call concerns, before it is made.
-    pub fn look(&mut self, call: &Call, taken: Option<&Taken>) -> Result<Look, AllocError> {
+    pub fn look(&mut self, call: &Call, taken: Option<&Taken>) -> Result<Look, AllocError>
+        ensures { self.new ≡ self.old }
+    {
         match *call {
             Call::Signal { its, dev, ev } => Ok(self.look_at_event(its, dev, ev)),
             Call::Dma {
@@ -106,14 +112,20 @@ impl Replayed {
     }
 
     fn look_at_event(&self, its: u8, dev: DeviceId, ev: EventId) -> Look {
+        Look::Event(self.event_look(its, dev, ev))
+    }
+
+    fn event_look(&self, its: u8, dev: DeviceId, ev: EventId) -> EventLook
+        ensures { result ≡ spec.event_look self.now its dev ev }
+    {
         let pair = self.pair(its, dev, ev);
-        Look::Event(EventLook {
+        EventLook {
             its,
             dev,
             ev,
             pair,
             lpi: self.lpi(pair.spot()),
-        })
+        }
     }
 
     fn look_at_step(&self, its: u8, taken: Option<&Taken>) -> Result<Look, AllocError> {
@@ -180,7 +192,9 @@ impl Replayed {
     }
 
     /// The fact of a call that was made after this look.
-    pub fn fact(&mut self, look: &Look) -> Result<Fact, AllocError> {
+    pub fn fact(&mut self, look: &Look) -> Result<Fact, AllocError>
+        ensures { self.new ≡ self.old }
+    {
         match *look {
             Look::Nothing => Ok(Fact::None),
             Look::Known(fact) => Ok(fact),
@@ -209,7 +223,9 @@ impl Replayed {
         }
     }
 
-    fn event_fact(&self, look: &EventLook) -> EventFact {
+    fn event_fact(&self, look: &EventLook) -> EventFact
+        ensures { result ≡ spec.event_fact self.now look.now }
+    {
         let after = self.pair(look.its, look.dev, look.ev);
         let spot = match after.spot() {
             Some(spot) => Some(spot),
@@ -226,7 +242,9 @@ impl Replayed {
         }
     }
 
-    fn lpi_register_fact(&mut self, look: &LpiRegisterLook) -> Result<Fact, AllocError> {
+    fn lpi_register_fact(&mut self, look: &LpiRegisterLook) -> Result<Fact, AllocError>
+        ensures { self.new ≡ self.old }
+    {
         Ok(Fact::LpiWritten(LpiRegisterFact {
             before: look.bases,
             after: self.bases(look.vcpu),
@@ -261,6 +279,20 @@ impl Replayed {
             Some(translator) => counts_of(translator.maps),
             None => Counts::NONE,
         }
+    }
+}
+
+fn next_of(translator: TranslatorRef<'_>, its: u8, memory: &Memory) -> Option<Taken>
+    ensures { result ≡ option_map (taken_of translator.entry.regs.now its)
+        (command_of translator.entry.regs.now memory.now) }
+{
+    match meet(translator.regs, memory) {
+        Met::Still(_) => None,
+        Met::Command(command) => Some(Taken {
+            its,
+            addr: translator.regs.queue_place(),
+            command,
+        }),
     }
 }
 

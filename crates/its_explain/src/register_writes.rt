@@ -1,11 +1,11 @@
 //! What writes of registers came to, for people: what was kept, or the rule by which a write was
 //! ignored.
 use crate::facts::{Counts, LpiRegisterFact, RegisterFact};
+use crate::numbers::push_count;
 use crate::register_values::{
     lpi_register, push_lpi_value, push_translator_value, translator_register,
 };
 use crate::replayed::Replayed;
-use crate::sources::push_count;
 use call_facts::{LpiRule, WriteRule, lpi_rule};
 use its_types::{Bases, Intid, field, low_half};
 use std::alloc::AllocError;

@@ -1,5 +1,4 @@
-//! The machine on which the calls of a report are made again, and what is looked up in it. Its
-//! value says nothing here: what a look at it is worth stands at the calls of views.rt.
+//! The machine on which the calls of a report are made again, and what is looked up in it.
 ghost use Rattle.its_plain.specs.Machine.{IsDescription};
 
 use crate::views::{bases_seen, idle_seen, lpi_seen, pair_seen, rule_seen, waiting_seen};
@@ -12,7 +11,7 @@ use owned_parts::TranslatorRef;
 use std::alloc::{AllocError, Global};
 use std::marker::Model;
 
-/// A machine, with the memory that its calls take.
+/// A machine, with the memory that its calls take. It is seen as the state that it stands for.
 #[derive(Drop)]
 pub struct Replayed {
     alloc: Global,
@@ -20,12 +19,26 @@ pub struct Replayed {
 }
 
 impl Model for Replayed {
-    ghost Value = { Unit {0} };
+    ghost use Rattle.its_plain.specs.Plain.{Plain, plain_code};
 
-    ghost view = { λ _. tt };
+    ghost Value = { Plain };
+
+    ghost coded = { plain_code };
+
+    ghost view = { λ r. r.machine };
 }
 
 impl Replayed {
+    ghost use Rattle.std.specs.Prelude.{◌≡◌, IfOk, OnErr, slice_get};
+    ghost use Rattle.std.specs.Option.{option_map};
+    ghost use Rattle.call_facts.specs.Idle.{idle_cause};
+    ghost use Rattle.call_facts.specs.Pairs.{pair_state};
+    ghost use Rattle.its_explain.specs.Looks.{lpi_of};
+    ghost use Rattle.its_explain.specs.Views as spec;
+    ghost use Rattle.its_plain.specs.Answer as plain;
+    ghost use Rattle.its_plain.specs.Plain.{maps_of, regs_of};
+    ghost use Rattle.owned_parts.specs.Owned.{translator_at};
+
     /// A machine in its first state.
     pub fn new(alloc: Global, desc: &Desc) -> Result<Replayed, MakeError>
         requires { IsDescription desc.now }
@@ -35,7 +48,11 @@ impl Replayed {
     }
 
     /// Answers a call.
-    pub fn answer(&mut self, call: &Call) -> Result<Reply, AllocError> {
+    pub fn answer(&mut self, call: &Call) -> Result<Reply, AllocError>
+        ensures reply { IfOk result (λ r. r ≡ plain.reply_of self.old call.now) }
+        ensures left { IfOk result (λ r. self.new ≡ plain.left self.old call.now r) }
+        ensures err { OnErr result (self.new ≡ self.old) }
+    {
         self.machine.answer(self.alloc, call)
     }
 
@@ -72,43 +89,59 @@ impl Replayed {
     }
 
     /// A translator, if there is one of this number.
-    pub fn translator(&self, its: u8) -> Option<TranslatorRef<'_>> {
+    pub fn translator(&self, its: u8) -> Option<TranslatorRef<'_>>
+        ensures { option_map translator_at result ≡ slice_get self.now.translators its }
+    {
         self.machine.parts().in_place().translator(its)
     }
 
     /// Guest memory.
-    pub fn memory(&self) -> &Memory {
+    pub fn memory(&self) -> &Memory
+        ensures { result.now ≡ self.now.memory }
+    {
         &self.machine.parts().memory
     }
 
     /// What the maps say of a device and one of its events.
-    pub fn pair(&self, its: u8, dev: DeviceId, ev: EventId) -> PairState {
+    pub fn pair(&self, its: u8, dev: DeviceId, ev: EventId) -> PairState
+        ensures { result ≡ pair_state (maps_of self.now its) dev.0 ev.0 }
+    {
         pair_seen(self.machine.parts(), its, dev, ev)
     }
 
     /// How an LPI stands where it goes, if it goes anywhere.
-    pub fn lpi(&self, spot: Option<Target>) -> Option<LpiState> {
+    pub fn lpi(&self, spot: Option<Target>) -> Option<LpiState>
+        ensures { result ≡ lpi_of self.now spot }
+    {
         let Target { vcpu, intid } = spot?;
         lpi_seen(self.machine.parts(), vcpu, intid)
     }
 
     /// What waits at a virtual processor.
-    pub fn waiting(&self, vcpu: Vcpu) -> Result<Waiting, AllocError> {
+    pub fn waiting(&self, vcpu: Vcpu) -> Result<Waiting, AllocError>
+        ensures { IfOk result (λ w. w ≡ spec.waiting_for self.now vcpu.0) }
+    {
         waiting_seen(self.alloc, self.machine.parts(), vcpu)
     }
 
     /// The LPI registers of a virtual processor, if there is one.
-    pub fn bases(&self, vcpu: Vcpu) -> Option<Bases> {
+    pub fn bases(&self, vcpu: Vcpu) -> Option<Bases>
+        ensures { result ≡ spec.bases_at self.now vcpu.0 }
+    {
         bases_seen(self.machine.parts(), vcpu)
     }
 
     /// Why a translator takes no command, if it takes none.
-    pub fn idle(&self, its: u8) -> Option<IdleCause> {
+    pub fn idle(&self, its: u8) -> Option<IdleCause>
+        ensures { result ≡ idle_cause (regs_of self.now its) }
+    {
         idle_seen(self.machine.parts(), its)
     }
 
     /// What becomes of a write of a translator's registers.
-    pub fn rule(&self, its: u8, off: u32, size: u8, value: u64) -> Option<WriteRule> {
+    pub fn rule(&self, its: u8, off: u32, size: u8, value: u64) -> Option<WriteRule>
+        ensures { result ≡ spec.rule_at self.now its off size value }
+    {
         rule_seen(self.machine.parts(), its, off, size, value)
     }
 
@@ -121,7 +154,9 @@ impl Replayed {
     }
 
     /// The same of the LPI registers of a virtual processor.
-    pub fn lpi_register(&mut self, vcpu: Vcpu, off: u32) -> Result<u64, AllocError> {
+    pub fn lpi_register(&mut self, vcpu: Vcpu, off: u32) -> Result<u64, AllocError>
+        ensures { self.new ≡ self.old }
+    {
         let (off, size) = if off < 4 { (0, 4) } else { (off & !7, 8) };
         let read = Call::ReadGicr { vcpu, off, size };
         match self.machine.answer(self.alloc, &read)? {

@@ -1,12 +1,14 @@
 //! What came of a call, in a sentence.
 use crate::acks::push_ack;
+use crate::authors::{push_ran_by, push_refused_by};
 use crate::commands::push_effect;
 use crate::facts::Fact;
+use crate::numbers::push_count;
 use crate::refused::push_reason;
 use crate::register_values::{push_lpi_value, push_translator_value};
 use crate::register_writes::{Access, push_lpi_write, push_write};
 use crate::signals::push_signal;
-use crate::sources::{Sources, push_count};
+use crate::sources::Sources;
 use call_facts::IdleCause;
 use its_plain::{Call, Reply, Route, StepReply};
 use std::alloc::AllocError;
@@ -51,13 +53,7 @@ fn push_step(out: &mut String, sources: &Sources, step: StepReply) -> Result<(),
             let Some(taken) = sources.taken else {
                 return Ok(());
             };
-            match sources.book.writer(taken.addr.0) {
-                Some(line) => write!(out, "not done, of line {line}: ")?,
-                None => {
-                    let addr = taken.addr.0;
-                    write!(out, "not done, of 0x{addr:x}, which no line wrote: ")?;
-                }
-            }
+            push_refused_by(out, sources.book, taken)?;
             push_reason(out, sources, taken, reason)
         }
     }
@@ -82,10 +78,7 @@ fn push_ran(out: &mut String, sources: &Sources) -> Result<(), AllocError> {
     let Some(taken) = sources.taken else {
         return Ok(());
     };
-    match sources.book.writer(taken.addr.0) {
-        Some(line) => write!(out, "by line {line} ")?,
-        None => write!(out, "by the command at 0x{:x} ", taken.addr.0)?,
-    }
+    push_ran_by(out, sources.book, taken)?;
     push_effect(out, sources, &taken.command)
 }
 

@@ -1,10 +1,15 @@
 //! What sentences are made from.
+ghost use Rattle.std.specs.Prelude.{◌≡◌, ◌++◌, OnOk};
+ghost use Rattle.std.specs.String.{string_bytes};
+ghost use Rattle.its_explain.specs.Book.{changer};
+ghost use Rattle.its_explain.specs.Numbers as spec;
+
 use crate::book::Book;
 use crate::facts::{Fact, Taken};
+use crate::numbers::{push_by_line, push_since_line};
 use crate::replayed::Replayed;
 use call_facts::Key;
 use std::alloc::AllocError;
-use std::fmt::Write;
 
 /// What sentences on a call are made from.
 #[derive(Clone, Copy)]
@@ -21,28 +26,18 @@ pub struct Sources<'a> {
 
 impl<'a> Sources<'a> {
     /// Adds the line whose command mapped something.
-    pub fn push_by(&self, out: &mut String, its: u8, key: Key) -> Result<(), AllocError> {
-        match self.book.changer(its, key) {
-            Some(line) => write!(out, " by line {line}"),
-            None => out.push_str(" by the tables"),
-        }
+    pub fn push_by(&self, out: &mut String, its: u8, key: Key) -> Result<(), AllocError>
+        ensures { OnOk result (string_bytes out.new ≡ string_bytes out.old
+            ++ spec.by_line (changer self.now.book.now its key)) }
+    {
+        push_by_line(out, self.book.changer(its, key))
     }
 
     /// Adds the line whose command unmapped something, if one did.
-    pub fn push_since(&self, out: &mut String, its: u8, key: Key) -> Result<(), AllocError> {
-        match self.book.changer(its, key) {
-            Some(line) => write!(out, " since line {line}"),
-            None => Ok(()),
-        }
-    }
-}
-
-/// Adds a count with its noun, which has an s unless it is one.
-pub fn push_count(out: &mut String, count: u64, noun: &str) -> Result<(), AllocError> {
-    write!(out, "{count} {noun}")?;
-    if count == 1 {
-        Ok(())
-    } else {
-        out.push_str("s")
+    pub fn push_since(&self, out: &mut String, its: u8, key: Key) -> Result<(), AllocError>
+        ensures { OnOk result (string_bytes out.new ≡ string_bytes out.old
+            ++ spec.since_line (changer self.now.book.now its key)) }
+    {
+        push_since_line(out, self.book.changer(its, key))
     }
 }

@@ -1,4 +1,12 @@
 //! A run that is told: each line of its report, and what came of each call.
+ghost use Rattle.std.specs.Prelude.{ℕ, ◌≡◌, if◌then◌else◌, Some, OnOk};
+ghost use Rattle.std.specs.Option.{option_map};
+ghost use Rattle.call_facts.specs.declared.answers.Key as asked;
+ghost use Rattle.its_explain.specs.Book.{changer, writer, is_among, line_by, writes};
+ghost use Rattle.its_explain.specs.Steps.{after, changes, changing_line, taken_for};
+ghost use Rattle.its_explain.specs.Watched.{changed_at};
+ghost use Rattle.its_plain.specs.Answer.{reply_of};
+
 use crate::book::Book;
 use crate::call_lines::CallLine;
 use crate::entries::{Entry, entry_of};
@@ -116,6 +124,28 @@ impl<'a> Story<'a> {
             self.push_missing(out, entry)?;
             return Ok(Told::Wrong);
         };
+        self.tell_call(out, line, entry, &next)
+    }
+
+    /// Makes a call, tells what came of it, and keeps what it changed.
+    fn tell_call(
+        &mut self,
+        out: &mut String,
+        line: &[u8],
+        entry: &Entry,
+        next: &Next,
+    ) -> Result<Told, AllocError>
+        ensures machine { OnOk result (self.new.machine ≡ after self.old.machine next.now.call) }
+        ensures changers { OnOk result ((i : ℕ) (k : asked.Key) → changer self.new.book i k
+            ≡ (if changes self.old.machine next.now.call i k
+            then Some (changing_line self.old.book self.old.machine next.now.call
+            next.now.line.number)
+            else changer self.old.book i k)) }
+        ensures writers { OnOk result ((a : ℕ) → writer self.new.book a
+            ≡ (if writes next.now.call (reply_of self.old.machine next.now.call) a
+            then Some next.now.line.number
+            else writer self.old.book a)) }
+    {
         let taken = self.command_for(&next.call);
         let taken = taken.as_ref();
         let watch = Watch::before(self.alloc, &self.machine, &next.call, taken)?;
@@ -123,8 +153,8 @@ impl<'a> Story<'a> {
         let reply = self.machine.answer(&next.call)?;
         let fact = self.machine.fact(&look)?;
         let made = Made { reply, fact };
-        let told = self.tell_made(out, line, entry, &next, taken, &made)?;
-        self.remember(&next, taken, &made, &watch)?;
+        let told = self.tell_made(out, line, entry, next, taken, &made)?;
+        self.remember(next, taken, &made, &watch)?;
         Ok(told)
     }
 
@@ -212,29 +242,32 @@ impl<'a> Story<'a> {
         taken: Option<&Taken>,
         made: &Made,
         watch: &Watch,
-    ) -> Result<(), AllocError> {
+    ) -> Result<(), AllocError>
+        ensures machine { OnOk result (self.new.machine ≡ self.old.machine) }
+        ensures changers { OnOk result ((i : ℕ) (k : asked.Key) → changer self.new.book i k
+            ≡ (if is_among watch.now.its (changed_at self.old.machine watch.now) i k
+            then Some (line_by self.old.book (option_map (λ t. t.now.addr) taken.entry)
+            next.now.line.number)
+            else changer self.old.book i k)) }
+        ensures writers { OnOk result ((a : ℕ) → writer self.new.book a
+            ≡ (if writes next.now.call made.now.reply a then Some next.now.line.number
+            else writer self.old.book a)) }
+    {
         self.places = self.places.saturating_add(1);
         let line = next.line.number;
         let keys = watch.changes(self.alloc, &self.machine)?;
-        let changer = match taken {
-            Some(taken) => self.book.writer(taken.addr.0).unwrap_or(line),
-            None => line,
+        let command = match taken {
+            Some(taken) => Some(taken.addr),
+            None => None,
         };
-        self.book.changed(watch.its, &keys, changer)?;
-        match &next.call {
-            Call::Poke { addr, bytes } | Call::Dma { addr, bytes, .. } => {
-                if made.reply == Reply::Ok {
-                    let count = bytes.as_slice().len() as u64;
-                    self.book.wrote(addr.0, count, line)?;
-                }
-                Ok(())
-            }
-            _ => Ok(()),
-        }
+        self.book.changed_by(watch.its, &keys, command, line)?;
+        self.book.wrote_by(&next.call, &made.reply, line)
     }
 
     /// The command that a call will take, if it is a step that takes one.
-    fn command_for(&self, call: &Call) -> Option<Taken> {
+    fn command_for(&self, call: &Call) -> Option<Taken>
+        ensures { result ≡ taken_for self.now.machine call.now }
+    {
         match *call {
             Call::Step { its } => self.machine.next_command(its),
             _ => None,
