@@ -498,6 +498,14 @@ uint32_t its_limit(struct its_handle *handle, uint64_t events);
 uint32_t its_limits(struct its_handle *handle, uint64_t events, uint64_t devices, uint64_t memory);
 
 /*
+ * How often a translation may have ended, counted from 0: by a MAPD, MAPC, MAPTI, MAPI, MOVI or DISCARD
+ * that ran, by a write of GITS_BASER0 or GITS_BASER1, also one that is ignored, and by its_migrate. While
+ * the number stays, each event leads where it led (its_event), as far as the maps say: GITS_CTLR and
+ * GICR_CTLR, which turn the translator and LPIs on and off, are the caller's to look at. ITS_HANDLE.
+ */
+uint32_t its_routes_changed(struct its_handle *handle, uint64_t *count);
+
+/*
  * Writes the tables to guest memory: devices, events, collections and pending LPIs, in the format of
  * KVM's ITS (ABI revision 0). ITS_NO_MEMORY, ITS_FAULT with `fault`, ITS_FULL where memory_limit would be
  * passed, as of its_write_memory, ITS_HANDLE.

@@ -14,6 +14,8 @@ pub record Held : Type 0 where
   pub desc : Desc
   -- how much the guest may take
   pub limits : GuestLimits
+  -- how often a translation may have ended
+  pub routes : ℕ
 
 abbrev pub with_machine : Held → Plain → Held
 with_machine h u = record h { machine = u }

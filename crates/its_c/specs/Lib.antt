@@ -8,6 +8,7 @@ pub mod LentBytes
 pub mod Making
 pub mod Owning
 pub mod Pieces
+pub mod Routes
 pub mod Saves
 pub mod Stretches
 pub mod Words

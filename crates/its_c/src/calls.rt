@@ -13,6 +13,7 @@ ghost use Rattle.its_numbers.specs.Lists.{HasFirst, SameFrom};
 ghost use Rattle.its_numbers.specs.Codes as codes;
 ghost use Rattle.its_c.specs.Held.{InMachine, InHeld, beside};
 ghost use Rattle.its_c.specs.Keeping.{IsWriteCode};
+ghost use Rattle.its_c.specs.Routes.{KeepsRoutes};
 ghost use Rattle.its_numbers.specs.Events.{event_out};
 ghost use Rattle.its_numbers.specs.Replies as replies;
 ghost use Rattle.its_c.specs.Words.{has_word, word as text};
@@ -65,6 +66,7 @@ pub extern "C" fn its_write_register(
     ensures left { InMachine handle.old handle.new (λ u w.
         is size ≡ true → w ≡ written u 0 offset size value) }
     ensures refused { InMachine handle.old handle.new (λ u w. is size ≡ false → w ≡ u) }
+    ensures routes { InHeld handle.old handle.new (λ h k. KeepsRoutes h k) }
 {
     if handle.is_empty() {
         return HANDLE;

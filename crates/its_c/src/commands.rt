@@ -9,13 +9,15 @@ ghost use Rattle.its_types.specs.Bitmap.{word_bit};
 ghost use Rattle.its_types.specs.Ranges.{most_vcpus};
 ghost use Rattle.owned_parts.specs.RedistSets.{is_in};
 ghost use Rattle.its_numbers.specs.Codes as codes;
-ghost use Rattle.its_c.specs.Keeping.{with_machine, is_full};
+ghost use Rattle.its_c.specs.Keeping.{is_full};
+ghost use Rattle.its_c.specs.Routes.{went_on, step_leaves_maps, KeepsRoutes};
 ghost use Rattle.its_c.specs.Concerns.{UnconcernedStay, AreConcerned, IsStepCode, IsLentStepCode};
 ghost use Rattle.its_numbers.specs.Replies as replies;
 
 use crate::kept::{Kept, StepError};
 use crate::lent_bytes::{lent_memory, stretches_fit};
 use crate::memory::memory_of;
+use crate::routes::step_leaves_maps;
 use guest_windows::Memory;
 use its_numbers::{DONE, FULL, NO_MEMORY, RANGE, StepOut, StretchOut, step_out};
 use its_types::{MOST_VCPUS, put_bit};
@@ -32,7 +34,9 @@ pub fn step(kept: &mut Kept, alloc: Global, out: &mut StepOut) -> u32
     ensures concerned { result ≡ codes.done
         → AreConcerned out.new.concerned kept.old.machine }
     ensures left { result ≡ codes.done
-        → kept.new ≡ with_machine kept.old (plain.step_left kept.old.machine 0) }
+        → kept.new ≡ went_on kept.old (plain.step_left kept.old.machine 0)
+        (step_leaves_maps (plain.step_reply kept.old.machine 0)) }
+    ensures routes { KeepsRoutes kept.old kept.new }
     ensures full { result ≡ codes.full → is_full kept.old.limits kept.old.machine ≡ true }
     ensures where_full { is_full kept.old.limits kept.old.machine ≡ true → result ≡ codes.full }
     ensures rare { result ≡ codes.no_memory → step_adds kept.old.machine 0 ≡ true }
@@ -42,6 +46,7 @@ pub fn step(kept: &mut Kept, alloc: Global, out: &mut StepOut) -> u32
     let concerned = words_of(concerned(kept.machine().parts(), 0));
     match kept.step(alloc) {
         Ok(reply) => {
+            kept.count(step_leaves_maps(&reply));
             *out = step_out(reply, concerned);
             DONE
         }
@@ -67,7 +72,9 @@ pub fn step_with(
     ensures concerned { result ≡ codes.done
         → AreConcerned out.new.concerned (lent kept.old.machine list.now bytes.now) }
     ensures left { result ≡ codes.done → kept.new
-        ≡ with_machine kept.old (lent_left kept.old.machine list.now bytes.now) }
+        ≡ went_on kept.old (lent_left kept.old.machine list.now bytes.now)
+        (step_leaves_maps (plain.step_reply (lent kept.old.machine list.now bytes.now) 0)) }
+    ensures routes { KeepsRoutes kept.old kept.new }
     ensures full { result ≡ codes.full
         → is_full kept.old.limits (lent kept.old.machine list.now bytes.now) ≡ true }
     ensures past { result ≡ codes.done
@@ -94,7 +101,9 @@ fn step_on(kept: &mut Kept, memory: &Memory, out: &mut StepOut) -> u32
     ensures concerned { result ≡ codes.done
         → AreConcerned out.new.concerned (on memory.now kept.old.machine) }
     ensures left { result ≡ codes.done → kept.new
-        ≡ with_machine kept.old (left_on memory.now kept.old.machine 0) }
+        ≡ went_on kept.old (left_on memory.now kept.old.machine 0)
+        (step_leaves_maps (plain.step_reply (on memory.now kept.old.machine) 0)) }
+    ensures routes { KeepsRoutes kept.old kept.new }
     ensures full { result ≡ codes.full
         → is_full kept.old.limits (on memory.now kept.old.machine) ≡ true }
     ensures where_full { is_full kept.old.limits (on memory.now kept.old.machine) ≡ true
@@ -105,6 +114,7 @@ fn step_on(kept: &mut Kept, memory: &Memory, out: &mut StepOut) -> u32
     let concerned = words_of(concerned_on(kept.machine().parts(), memory, 0));
     match kept.step_on(memory) {
         Ok(reply) => {
+            kept.count(step_leaves_maps(&reply));
             *out = step_out(reply, concerned);
             DONE
         }

@@ -4,6 +4,7 @@ ghost use Rattle.owned_machine.specs.Lent.{on};
 ghost use Rattle.its_c.specs.Keeping as spec;
 
 use crate::room::{has_room, is_within, missing};
+use crate::routes::next_count;
 use dma_routes::route;
 use guest_windows::{Memory, Outside};
 use its_numbers::GuestLimits;
@@ -21,6 +22,7 @@ pub struct Kept {
     machine: Machine,
     desc: Desc,
     limits: GuestLimits,
+    routes: u64,
 }
 
 impl Model for Kept {
@@ -54,6 +56,7 @@ impl Kept {
     ghost use Rattle.dma_routes.specs.Routes.{AreDevices};
     ghost use Rattle.guest_windows.specs.Windows.{inside, extent};
     ghost use Rattle.its_c.specs.Keeping.{with_machine, no_limit, is_full, is_over, maps_none};
+    ghost use Rattle.its_c.specs.Routes.{counted};
     ghost use Rattle.its_c.specs.declared.kept.StepError.TheVariants.{Full, NoMemory};
     ghost use Rattle.its_plain.specs.Answer as plain;
     ghost use Rattle.its_plain.specs.Doorbells.{route_of, dma_of};
@@ -74,6 +77,7 @@ impl Kept {
             machine,
             desc,
             limits,
+            routes: 0,
         }
     }
 
@@ -82,6 +86,23 @@ impl Kept {
         ensures { result.now ≡ self.now.machine }
     {
         &self.machine
+    }
+
+    /// How often a translation may have ended.
+    pub fn routes(&self) -> u64
+        ensures { result ≡ self.now.routes }
+    {
+        self.routes
+    }
+
+    /// Counts a call, unless it left the maps.
+    pub fn count(&mut self, leaves_maps: bool)
+        ensures { self.new
+            ≡ record self.old { routes = counted leaves_maps self.old.routes } }
+    {
+        if !leaves_maps {
+            self.routes = next_count(self.routes);
+        }
     }
 
     /// How much may be mapped.
@@ -96,6 +117,7 @@ impl Kept {
         ensures machine { self.new.machine ≡ self.old.machine }
         ensures desc { self.new.desc ≡ self.old.desc }
         ensures limits { self.new.limits ≡ limits }
+        ensures routes { self.new.routes ≡ self.old.routes }
     {
         self.limits = limits;
     }
@@ -276,6 +298,7 @@ impl Kept {
         ensures machine { Migrates result self.old.machine self.new.machine }
         ensures desc { self.new.desc ≡ self.old.desc }
         ensures limits { self.new.limits ≡ self.old.limits }
+        ensures routes { self.new.routes ≡ self.old.routes }
     {
         self.machine.migrate(alloc)
     }

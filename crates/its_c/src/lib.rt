@@ -28,6 +28,7 @@ mod pieces;
 mod ranges;
 mod registers;
 mod room;
+mod routes;
 mod saves;
 mod step_calls;
 mod stretches;

@@ -3,7 +3,9 @@ use crate::calls::{its_dma, its_signal, its_write_register};
 use crate::handle::Handle;
 use crate::making::{its_free, its_new};
 use crate::memory_calls::{its_forget, its_next_page, its_read_memory, its_write_memory};
-use crate::step_calls::{its_limits, its_migrate, its_needs_of, its_save, its_step, its_step_with};
+use crate::step_calls::{
+    its_limits, its_migrate, its_needs_of, its_routes_changed, its_save, its_step, its_step_with,
+};
 use crate::tests::{FILLS, NO_SAVE_FAULT, NO_STEP, NUMBERS, PENDING, WINDOWS, drive};
 use its_numbers::{
     DONE, DescriptionIn, DmaOut, FULL, FillIn, HANDLE, NO_FAULT, OUTSIDE, RANGE, SignalOut,
@@ -279,5 +281,32 @@ fn lent_bytes(rt: HostRuntime) {
     };
     assert_eq!(rt; its_next_page(&mut handle, 0, &mut page), DONE);
     assert_eq!(rt; (page.address, page.length), (0, 0));
+    assert_eq!(rt; its_free(&mut handle, alloc), DONE);
+}
+
+fn routes(handle: &mut Handle) -> (u32, u64) {
+    let mut count = 9;
+    let code = its_routes_changed(handle, &mut count);
+    (code, count)
+}
+
+// The tables' registers and three commands raise the count; the queue's registers, an idle step, a
+// signal and a save don't, and a migration does.
+#[test]
+fn routes_that_may_have_changed(rt: HostRuntime) {
+    let alloc = rt.alloc();
+    let mut handle = Handle::empty(alloc);
+    assert_eq!(rt; routes(&mut handle), (HANDLE, 9));
+    assert_eq!(rt; made(alloc, &mut handle, &NUMBERS, &FILLS, &[0xa1]), DONE);
+    assert_eq!(rt; routes(&mut handle), (DONE, 0));
+    assert_eq!(rt; drive(alloc, &mut handle), 3);
+    assert_eq!(rt; routes(&mut handle), (DONE, 5));
+    let mut out = NO_DMA;
+    its_signal(&mut handle, alloc, 7, 2, &mut out.signal);
+    let mut fault = NO_SAVE_FAULT;
+    assert_eq!(rt; its_save(&mut handle, alloc, &mut fault), DONE);
+    assert_eq!(rt; routes(&mut handle), (DONE, 5));
+    assert_eq!(rt; its_migrate(&mut handle, alloc, &mut fault), DONE);
+    assert_eq!(rt; routes(&mut handle), (DONE, 6));
     assert_eq!(rt; its_free(&mut handle, alloc), DONE);
 }

@@ -8,9 +8,11 @@ ghost use Rattle.its_c.specs.Asked.{is_size as is, has_vcpu as has, has_register
 ghost use Rattle.its_numbers.specs.Stored.{stored};
 ghost use Rattle.its_numbers.specs.Codes as codes;
 ghost use Rattle.its_c.specs.Keeping.{with_machine};
+ghost use Rattle.its_c.specs.Routes.{went_on, is_no_table, KeepsRoutes};
 
 use crate::kept::Kept;
 use crate::ranges::{has_vcpu, is_size};
+use crate::routes::is_no_table;
 use its_numbers::{DONE, NO_MEMORY, RANGE, RedistributorIn};
 use its_plain::{Call, Reply};
 use its_types::Vcpu;
@@ -44,7 +46,9 @@ pub fn read_register(kept: &mut Kept, alloc: Global, offset: u32, size: u32, out
 pub fn write_register(kept: &mut Kept, alloc: Global, offset: u32, size: u32, value: u64) -> u32
     ensures code { result ≡ codes.if_in_range (is size) }
     ensures left { is size ≡ true
-        → kept.new ≡ with_machine kept.old (written kept.old.machine 0 offset size value) }
+        → kept.new ≡ went_on kept.old (written kept.old.machine 0 offset size value)
+        (is_no_table offset) }
+    ensures routes { KeepsRoutes kept.old kept.new }
     ensures refused { is size ≡ false → kept.new ≡ kept.old }
 {
     if !is_size(size) {
@@ -59,6 +63,7 @@ pub fn write_register(kept: &mut Kept, alloc: Global, offset: u32, size: u32, va
     let Ok(_) = kept.answer(alloc, &call) else {
         unreachable!()
     };
+    kept.count(is_no_table(offset));
     DONE
 }
 

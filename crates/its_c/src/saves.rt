@@ -2,6 +2,7 @@
 ghost use Rattle.std.specs.Prelude.{◌≡◌, ◌≢◌};
 ghost use Rattle.its_numbers.specs.Codes as codes;
 ghost use Rattle.its_c.specs.Keeping.{no_limit};
+ghost use Rattle.its_c.specs.Routes.{KeepsRoutes};
 ghost use Rattle.its_c.specs.Saves.{IsSaved, IsMoved, IsUnsaved};
 
 use crate::kept::Kept;
@@ -38,6 +39,7 @@ pub fn save(kept: &mut Kept, alloc: Global, fault: &mut SaveFaultOut) -> u32
 pub fn migrate(kept: &mut Kept, alloc: Global, fault: &mut SaveFaultOut) -> u32
     ensures done { result ≡ codes.done → IsMoved kept.old.machine kept.new.machine }
     ensures otherwise { IsUnsaved result kept.old.machine kept.new.machine fault.old fault.new }
+    ensures routes { KeepsRoutes kept.old kept.new }
     ensures full { result ≡ codes.full → kept.old.limits.memory ≢ no_limit }
     ensures beside { (kept.new.desc ≡ kept.old.desc) × (kept.new.limits ≡ kept.old.limits) }
 {
@@ -47,7 +49,10 @@ pub fn migrate(kept: &mut Kept, alloc: Global, fault: &mut SaveFaultOut) -> u32
         Err(_) => return NO_MEMORY,
     }
     match kept.migrate(alloc) {
-        Ok(()) => DONE,
+        Ok(()) => {
+            kept.count(false);
+            DONE
+        }
         Err(SaveError::Fault(found)) => {
             *fault = save_fault_out(found);
             FAULT

@@ -8,6 +8,7 @@ ghost use Rattle.its_c.specs.Keeping.{is_full, no_limit};
 ghost use Rattle.its_c.specs.Concerns.{UnconcernedStay, AreConcerned, IsStepCode, IsLentStepCode};
 ghost use Rattle.its_c.specs.LentBytes.{stretches_fit, lent, lent_left};
 ghost use Rattle.its_numbers.specs.Replies as replies;
+ghost use Rattle.its_c.specs.Routes.{KeepsRoutes};
 ghost use Rattle.its_c.specs.Saves.{IsSaved, IsMoved, IsUnsaved};
 ghost use Rattle.its_c.specs.Stretches.{needed as reads, needed_by as reads_by, is_command};
 ghost use Rattle.its_c.specs.Stretches.{written_tables as tables};
@@ -94,6 +95,7 @@ pub extern "C" fn its_step(handle: &mut Handle, alloc: Global, out: &mut StepOut
         result ≡ codes.no_memory → step_adds u 0 ≡ true) }
     ensures refused { InMachine handle.old handle.new (λ u w.
         result ≢ codes.done → (out.new ≡ out.old) × (w ≡ u)) }
+    ensures routes { InHeld handle.old handle.new (λ h k. KeepsRoutes h k) }
 {
     if handle.is_empty() {
         return HANDLE;
@@ -133,6 +135,7 @@ pub extern "C" fn its_step_with(
         result ≡ codes.done → is_full h.limits (lent h.machine list.now bytes.now) ≡ false) }
     ensures refused { InMachine handle.old handle.new (λ u w.
         result ≢ codes.done → (out.new ≡ out.old) × (w ≡ u)) }
+    ensures routes { InHeld handle.old handle.new (λ h k. KeepsRoutes h k) }
 {
     if handle.is_empty() {
         return HANDLE;
@@ -182,6 +185,22 @@ pub extern "C" fn its_limits(handle: &mut Handle, events: u64, devices: u64, mem
     DONE
 }
 
+/// How often a step, a write of a register or a migration may have ended a translation.
+#[unsafe(no_mangle)]
+pub extern "C" fn its_routes_changed(handle: &mut Handle, count: &mut u64) -> u32
+    ensures empty { handle.old.machine ≡ None
+        → (result ≡ codes.handle) × (count.new ≡ count.old) }
+    ensures done { InMachine handle.old handle.new (λ u w. result ≡ codes.done) }
+    ensures told { InHeld handle.old handle.new (λ h k. count.new ≡ h.routes) }
+    ensures same { InHeld handle.old handle.new (λ h k. k ≡ h) }
+{
+    if handle.is_empty() {
+        return HANDLE;
+    }
+    *count = handle.lent().routes();
+    DONE
+}
+
 /// The tables are written to guest memory.
 #[unsafe(no_mangle)]
 pub extern "C" fn its_save(handle: &mut Handle, alloc: Global, fault: &mut SaveFaultOut) -> u32
@@ -210,6 +229,7 @@ pub extern "C" fn its_migrate(handle: &mut Handle, alloc: Global, fault: &mut Sa
         IsUnsaved result u w fault.old fault.new) }
     ensures full { InHeld handle.old handle.new (λ h k.
         result ≡ codes.full → h.limits.memory ≢ no_limit) }
+    ensures routes { InHeld handle.old handle.new (λ h k. KeepsRoutes h k) }
 {
     if handle.is_empty() {
         return HANDLE;
