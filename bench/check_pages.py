@@ -317,7 +317,7 @@ def versions():
                 yield page, f"names the kit {other}, where its_words has {kit}"
     header = re.search(r"ITS_VERSION (\d+)", (TOP / "include/its.h").read_text(encoding="utf-8")).group(1)
     library = TOP / "docs/LIBRARY.md"
-    if f"At {header} a machine has" not in library.read_text(encoding="utf-8"):
+    if f"At {header} " not in library.read_text(encoding="utf-8"):
         yield library, f"doesn't say what came with version {header} of the header"
 
 

@@ -68,7 +68,8 @@ static void start(struct machine *machine, uint32_t vcpus)
     static const struct its_redistributor_in off[MANY];
     const struct its_window_in window = {RAM, 0x40000000};
     const struct its_description_in numbers = {
-        .vcpus = vcpus, .device_bits = 16, .lpi_bits = 16, .profile = 1, .programmed = 1};
+        .vcpus = vcpus, .device_bits = 16, .lpi_bits = 16, .profile = 1, .programmed = 1,
+        .event_limit = UINT64_MAX, .device_limit = UINT64_MAX, .memory_limit = UINT64_MAX};
     struct its_make_fault_out fault;
     uint32_t vcpu;
     made("its_new",

@@ -753,7 +753,7 @@ fn main() {
     let count: u32 = words.get(1).and_then(|word| word.parse().ok()).expect("usage: ports_peer COUNT [NAME]");
     let bits = count.clamp(2, 65_536).ilog2();
     let events = 1 << bits;
-    let all: [(&str, &dyn Fn() -> (u64, Duration)); 18] = [
+    let all: [(&str, &dyn Fn() -> (u64, Duration)); 20] = [
         ("hit-1", &|| hits(count)),
         ("miss-1", &|| misses(events.min(8192), count)),
         ("signal-1", &|| signals(&DEVICES[..1], count)),
@@ -766,8 +766,10 @@ fn main() {
         ("locked-1", &|| locked_alone(1, count)),
         ("locked-2", &|| locked_alone(2, count)),
         ("locked-4", &|| locked_alone(4, count)),
-        ("take-1", &|| takes(events.min(1024), count)),
-        ("step", &|| (u64::from(events), with_events(events).1)),
+        ("take-1", &|| beside::takes(events.min(1024), count)),
+        ("take-one-part", &|| takes(events.min(1024), count)),
+        ("step", &|| beside::steps(events)),
+        ("step-map", &|| (u64::from(events), with_events(events).1)),
         ("save", &|| saves(bits)),
         ("save-flat", &|| saves_flat(bits)),
         ("poke", &|| pokes(count)),

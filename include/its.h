@@ -32,7 +32,7 @@ extern "C" {
 #endif
 
 /* Counts the changes of this file after which a caller is built anew. */
-#define ITS_VERSION 3
+#define ITS_VERSION 4
 
 /* What a call answers. */
 enum its_answer {
@@ -42,7 +42,7 @@ enum its_answer {
     ITS_RANGE = 3,     /* a number is out of its range */
     ITS_FAULT = 4,     /* the description or the state is at fault, as the call tells */
     ITS_HANDLE = 5,    /* the handle has no machine; at its_new: it has one already */
-    ITS_FULL = 6,      /* of its_step: as many events are mapped as its_limit allows, or more */
+    ITS_FULL = 6,      /* the guest has as many events, devices or pages as it may; of its_new: more */
     ITS_BUSY = 7,      /* of a pass: another has a part that is needed, or made a call meanwhile; try again */
     ITS_SPENT = 8      /* of a pass: all places of the machine's history are used, and no call is made */
 };
@@ -161,22 +161,25 @@ struct its_handle {
 
 /* What a machine is made from, but for its lists. */
 struct its_description_in {
-    uint32_t vcpus;       /* virtual processors, 1 to 512 */
-    uint32_t device_bits; /* of a DeviceID, 16 to 20 */
-    uint32_t lpi_bits;    /* of the INTID of an LPI, 14 to 20 */
-    uint32_t profile;     /* a MAPC of a mapped collection: 1 pending LPIs stay, 2 they move */
-    uint32_t programmed;  /* 0 LPIs are on at the tables given, 1 the guest programs GICR_* */
-    uint32_t restored;    /* 0 as at reset, 1 from guest memory and the registers that follow, 2 so, of tables that KVM saved */
-    uint32_t linux_guest; /* 1 with what a Linux guest counts on (docs/FORMATS.md, `linux`), 0 not */
-    uint32_t has_frames;  /* 1 devices write by address (its_dma) and frames says where, 0 not */
-    uint64_t config;      /* address of the LPI configuration table, where programmed is 0 */
-    uint64_t frames;      /* address of the translator's two frames of 64 KiB, where has_frames is 1 */
-    uint64_t ctlr;        /* GITS_CTLR to restore, of which bit 0 counts */
-    uint64_t cbaser;      /* GITS_CBASER */
-    uint64_t creadr;      /* GITS_CREADR */
-    uint64_t cwriter;     /* GITS_CWRITER */
-    uint64_t baser0;      /* GITS_BASER0 */
-    uint64_t baser1;      /* GITS_BASER1 */
+    uint32_t vcpus;        /* virtual processors, 1 to 512 */
+    uint32_t device_bits;  /* of a DeviceID, 16 to 20 */
+    uint32_t lpi_bits;     /* of the INTID of an LPI, 14 to 20 */
+    uint32_t profile;      /* a MAPC of a mapped collection: 1 pending LPIs stay, 2 they move */
+    uint32_t programmed;   /* 0 LPIs are on at the tables given, 1 the guest programs GICR_* */
+    uint32_t restored;     /* 0 as at reset, 1 from guest memory and the registers that follow, 2 so, of tables that KVM saved */
+    uint32_t linux_guest;  /* 1 with what a Linux guest counts on (docs/FORMATS.md, `linux`), 0 not */
+    uint32_t has_frames;   /* 1 devices write by address (its_dma) and frames says where, 0 not */
+    uint64_t config;       /* address of the LPI configuration table, where programmed is 0 */
+    uint64_t frames;       /* address of the translator's two frames of 64 KiB, where has_frames is 1 */
+    uint64_t ctlr;         /* GITS_CTLR to restore, of which bit 0 counts */
+    uint64_t cbaser;       /* GITS_CBASER */
+    uint64_t creadr;       /* GITS_CREADR */
+    uint64_t cwriter;      /* GITS_CWRITER */
+    uint64_t baser0;       /* GITS_BASER0 */
+    uint64_t baser1;       /* GITS_BASER1 */
+    uint64_t event_limit;  /* events that may be mapped; UINT64_MAX: as many as there are */
+    uint64_t device_limit; /* devices, so */
+    uint64_t memory_limit; /* bytes of guest memory that may be held, in pages of 65,536, so */
 };
 
 /*
@@ -321,8 +324,9 @@ uint32_t its_text(uint32_t list, uint32_t number, uint8_t *buffer, size_t buffer
  * `pending` has the address of each virtual processor's pending table, where `programmed` is 0;
  * `redistributors` has the registers of each, where it is 1, which count where `restored` is 1. The
  * lengths of the fills are together bytes_len. A machine that was saved comes up again with the
- * memory and the registers that it had. As many events may be mapped as there are: its_limit.
- * ITS_NO_MEMORY, ITS_RANGE, ITS_FAULT with `fault`, ITS_HANDLE.
+ * memory and the registers that it had. ITS_FULL where more events or devices are restored than the
+ * limits say, or the fills take more pages: the memory that they took is free again, and the handle has
+ * none. ITS_NO_MEMORY, ITS_RANGE, ITS_FAULT with `fault`, ITS_HANDLE.
  */
 uint32_t its_new(struct its_handle *handle, const struct its_description_in *numbers,
                  const struct its_window_in *windows, size_t windows_len, const uint64_t *pending,
@@ -378,7 +382,8 @@ uint32_t its_read_memory(struct its_handle *handle, uint64_t address, uint8_t *b
 
 /*
  * Copies `bytes` to guest memory from an address on, all or none. ITS_NO_MEMORY, and errors as for
- * reading.
+ * reading. ITS_FULL where memory_limit would be passed; it is answered one page before that too, where the
+ * bytes don't all lie in one page that is held.
  */
 uint32_t its_write_memory(struct its_handle *handle, uint64_t address, const uint8_t *bytes,
                           size_t bytes_len);
@@ -403,7 +408,8 @@ uint32_t its_signal(struct its_handle *handle, uint32_t device, uint32_t event,
 /*
  * A write of 1 to 64 bytes by a requester, at an address: a message, where these are two or four bytes
  * at 65,600 after the frames; nothing, where they meet the frames otherwise; else a write of guest
- * memory. ITS_NO_MEMORY only of such a write, ITS_RANGE at another count of bytes, ITS_HANDLE.
+ * memory. ITS_NO_MEMORY and ITS_FULL only of such a write, as of its_write_memory; ITS_RANGE at another
+ * count of bytes, ITS_HANDLE.
  */
 uint32_t its_dma(struct its_handle *handle, uint32_t requester, uint64_t address,
                  const uint8_t *bytes, size_t bytes_len, struct its_dma_out *out);
@@ -457,21 +463,44 @@ uint32_t its_needs(struct its_handle *handle, struct its_stretch_out *list, size
                    uint64_t *count);
 
 /*
+ * So what the next its_step reads where the 32 bytes of its command are these, whatever the machine's
+ * memory has there: for who lends them (its_step_with). ITS_RANGE where command_len isn't 32, ITS_HANDLE.
+ */
+uint32_t its_needs_of(struct its_handle *handle, const uint8_t *command, size_t command_len,
+                      struct its_stretch_out *list, size_t list_len, uint64_t *count);
+
+/*
  * The translator takes the next command of its queue (section 5.3). ITS_NO_MEMORY only of a command
- * that adds a device, an event or a collection; ITS_FULL only of one that adds an event, where as many
- * are mapped as its_limit allows: the command stays in the queue. ITS_HANDLE.
+ * that adds a device, an event or a collection; ITS_FULL only of one that adds a device or an event,
+ * where as many are mapped as the limits say: the command stays in the queue. ITS_HANDLE.
  */
 uint32_t its_step(struct its_handle *handle, struct its_step_out *out);
 
 /*
- * How many events may be mapped from now on; UINT64_MAX, as at first, is no limit. Events that are
- * mapped stay, also where they are more. ITS_HANDLE.
+ * The same with guest memory that is lent for this step: the stretches of `list`, of which each has the
+ * next of `bytes`. its_needs tells where the command is, and its_needs_of what it reads besides. The step
+ * is made as if guest memory had these bytes alone; a stretch that doesn't lie in one window is passed
+ * over. The machine's own memory is neither read nor changed, and nothing that was lent is held
+ * afterwards. Where all that it reads is lent as guest memory has it, it does what its_step does.
+ * ITS_RANGE where the lengths aren't together bytes_len, ITS_NO_MEMORY also for what is lent, ITS_FULL as
+ * of its_step, ITS_HANDLE.
+ */
+uint32_t its_step_with(struct its_handle *handle, const struct its_stretch_out *list, size_t list_len,
+                       const uint8_t *bytes, size_t bytes_len, struct its_step_out *out);
+
+/*
+ * How many events may be mapped from now on, in the place of the description's limit; UINT64_MAX is no
+ * limit. Events that are mapped stay, also where they are more. ITS_HANDLE.
  */
 uint32_t its_limit(struct its_handle *handle, uint64_t events);
 
+/* So how many events, how many devices, and how many bytes of guest memory. ITS_HANDLE. */
+uint32_t its_limits(struct its_handle *handle, uint64_t events, uint64_t devices, uint64_t memory);
+
 /*
  * Writes the tables to guest memory: devices, events, collections and pending LPIs, in the format of
- * KVM's ITS (ABI revision 0). ITS_NO_MEMORY, ITS_FAULT with `fault`, ITS_HANDLE.
+ * KVM's ITS (ABI revision 0). ITS_NO_MEMORY, ITS_FAULT with `fault`, ITS_FULL where memory_limit would be
+ * passed, as of its_write_memory, ITS_HANDLE.
  */
 uint32_t its_save(struct its_handle *handle, struct its_save_fault_out *fault);
 
@@ -520,9 +549,10 @@ uint32_t its_list_collections(struct its_handle *handle, uint32_t from,
  *
  * No call waits. Where another pass has a part that it needs (the maps, guest memory, a shard of the cache,
  * one of a processor's two parts), or makes a call meanwhile, it answers ITS_BUSY: nothing happened, and the
- * same call may be made again. its_wait.h has how to wait between two tries. ITS_SPENT comes after 2^40 - 1
- * calls: no call of this machine is made any more; save by then, and make another. What a call tells is as
- * it was where it answers neither ITS_DONE, nor ITS_FAULT or ITS_OUTSIDE, which are replies with a place.
+ * same call may be made again. its_wait.h has how to wait between two tries. A place has 56 bits: ITS_SPENT
+ * comes after 2^56 - 1 calls, and no call of this machine is made any more then. That is two thousand years
+ * at a million calls a second. What a call tells is as it was where it answers neither ITS_DONE, nor
+ * ITS_FAULT or ITS_OUTSIDE, which are replies with a place.
  */
 struct its_pass {
     void *at;
@@ -531,7 +561,8 @@ struct its_pass {
 
 /*
  * Makes a machine that threads share, and gives its first pass, the root, to a handle that has none.
- * Arguments and answers as of its_new, but that ITS_HANDLE is of a handle with a pass.
+ * Arguments and answers as of its_new, but that ITS_HANDLE is of a handle with a pass, and that the
+ * description's limits aren't asked: no call of a pass is ITS_FULL.
  */
 uint32_t its_share(struct its_pass *root, const struct its_description_in *numbers,
                    const struct its_window_in *windows, size_t windows_len, const uint64_t *pending,
@@ -611,7 +642,8 @@ uint32_t its_pass_save(struct its_pass *pass, uint64_t *place, struct its_save_f
  * how many calls the history has, and what is told is so after just these. ITS_SPENT isn't answered, and
  * ITS_BUSY only where another pass has a part that is needed: the maps, of its_pass_event also what is
  * pending at the target; of its_pass_pending and its_pass_stored_lpi_registers one of the processor's two
- * alone; of its_pass_needs and its_pass_written all but the cache. ITS_HANDLE.
+ * alone; of its_pass_needs the maps and guest memory, and where the next command reads configurations those
+ * of all processors; of its_pass_written all but the cache. ITS_HANDLE.
  */
 uint32_t its_pass_event(struct its_pass *pass, uint32_t device, uint32_t event, uint64_t *place,
                         struct its_event_out *out);

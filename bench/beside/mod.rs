@@ -5,7 +5,7 @@ mod locks;
 mod parts;
 mod ports;
 
-use crate::{DEVICES, EVENTS};
+use crate::{DEVICES, EVENTS, FIRST_LPI, LPIS};
 use locks::{Locked, Spinlock, TicketLock};
 use parts::{Command, Whole};
 use ports::Ports;
@@ -121,6 +121,57 @@ impl Other {
             _ => drop(black_box(machine.step(me))),
         }
     }
+}
+
+// How many commands stand in the queue at once.
+const BATCH: u32 = 1024;
+
+// A machine of four processors with one device of so many events, none of which is mapped.
+fn of_one_device(events: u32) -> Whole {
+    let mut whole = Whole::new(4, &[]);
+    whole.maps.map_collection(1, 1);
+    whole.run(Command::Mapd { dev: WIDE, bits: events.max(2).ilog2(), table: WIDE_TABLE });
+    whole
+}
+
+fn map(ev: u32) -> Command {
+    Command::Mapti { dev: WIDE, ev, intid: FIRST_LPI + ev % LPIS as u32, icid: 1 }
+}
+
+/// How long so many acknowledgements take, each of up to so many LPIs that are pending.
+pub fn takes(events: u32, count: u32) -> (u64, Duration) {
+    let mut whole = of_one_device(events);
+    (0..events).for_each(|ev| whole.run(map(ev)));
+    let machine = Ports::new(whole);
+    let (mut done, mut spent) = (0, Duration::ZERO);
+    while done < u64::from(count) {
+        (0..events).for_each(|ev| {
+            black_box(machine.signal(1, WIDE, ev));
+        });
+        let since = Instant::now();
+        for _ in 0..events {
+            assert!(black_box(machine.take(1, 1)).is_some());
+        }
+        spent += since.elapsed();
+        done += u64::from(events);
+    }
+    (done, spent)
+}
+
+/// How long steps take that map so many events of one device.
+pub fn steps(events: u32) -> (u64, Duration) {
+    let machine = Ports::new(of_one_device(events));
+    let mut spent = Duration::ZERO;
+    for first in (0..events).step_by(BATCH as usize) {
+        let batch = first..events.min(first + BATCH);
+        machine.queue(1, batch.clone().map(|ev| (ev as usize, map(ev))));
+        let since = Instant::now();
+        for _ in batch {
+            black_box(machine.step(1));
+        }
+        spent += since.elapsed();
+    }
+    (u64::from(events), spent)
 }
 
 // What the threads share.

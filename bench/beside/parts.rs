@@ -47,15 +47,18 @@ impl EventPages {
         self.directory[at].1[ev as usize % 64]
     }
 
+    // A page for the event, so that mapping it takes no memory.
+    fn make_room(&mut self, ev: u32) {
+        if let Err(at) = self.directory.binary_search_by_key(&(ev / 64), |page| page.0) {
+            self.directory.insert(at, (ev / 64, Box::new([None; 64])));
+        }
+    }
+
     fn insert(&mut self, ev: u32, intid: u32, icid: u16) {
-        let at = match self.directory.binary_search_by_key(&(ev / 64), |page| page.0) {
-            Ok(at) => at,
-            Err(at) => {
-                self.directory.insert(at, (ev / 64, Box::new([None; 64])));
-                at
-            }
-        };
-        self.directory[at].1[ev as usize % 64] = Some((intid, icid));
+        self.make_room(ev);
+        if let Ok(at) = self.directory.binary_search_by_key(&(ev / 64), |page| page.0) {
+            self.directory[at].1[ev as usize % 64] = Some((intid, icid));
+        }
     }
 }
 
@@ -100,6 +103,15 @@ impl Maps {
 
     pub fn go_on(&mut self) {
         self.next = (self.next + 32) % QUEUE_BYTES;
+    }
+
+    /// Room for what a command maps, which its call needs before it is made.
+    pub fn make_room(&mut self, command: Command) {
+        if let Command::Mapti { dev, ev, .. } = command {
+            if let Ok(at) = self.devices.binary_search_by_key(&dev, |device| device.dev) {
+                self.devices[at].events.make_room(ev);
+            }
+        }
     }
 
     /// What a command maps.
@@ -193,6 +205,15 @@ pub fn memory(commands: &[Command]) -> Pages {
         false => queue.into_boxed_slice(),
     });
     memory
+}
+
+/// Writes a command in a place of the queue.
+pub fn write_command(memory: &mut Pages, place: usize, command: Command) {
+    let at = QUEUE + 32 * place % QUEUE_BYTES;
+    let page = memory.held[at / HELD_PAGE].as_mut().expect("held");
+    for (number, word) in command.words().into_iter().enumerate() {
+        page[at % HELD_PAGE + 8 * number..][..8].copy_from_slice(&word.to_le_bytes());
+    }
 }
 
 /// The pages that a save writes, with every place of every table.

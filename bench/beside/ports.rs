@@ -1,7 +1,7 @@
 //! A machine that threads share by turns of its parts: words and slots that stand 128 bytes apart, a
 //! compare-and-exchange for each turn and one of the word that orders the calls.
 
-use super::parts::{drafts, lay, Command, Config, Maps, Whole};
+use super::parts::{drafts, lay, write_command, Command, Config, Maps, Whole};
 use super::Shared;
 use crate::{fill, find, pause, place_of, shard_part, stamp_of, Pages, Redist, Shard, Target, MAPS, MEMORY, SHARDS};
 use std::cell::UnsafeCell;
@@ -214,6 +214,7 @@ impl Ports {
         if !self.take_configs(me, &mut hand) {
             return Tried::Busy;
         }
+        maps.make_room(command);
         let made = self.committed(0);
         if made.is_some() {
             maps.map(command);
@@ -223,6 +224,13 @@ impl Ports {
         }
         self.put_configs(&mut hand);
         made.map_or(Tried::Raced, Tried::Done)
+    }
+
+    /// Writes commands in places of the queue.
+    pub fn queue(&self, me: u64, commands: impl Iterator<Item = (usize, Command)>) {
+        let Some(mut memory) = taken!(self, MEMORY, me, Memory) else { unreachable!() };
+        commands.for_each(|(place, command)| write_command(&mut memory, place, command));
+        self.put(MEMORY, Slot::Memory(memory));
     }
 
     #[inline(never)]

@@ -51,14 +51,16 @@ void translator_start(void)
                                                .lpi_bits = LPI_BITS,
                                                .profile = 1,
                                                .programmed = 1,
-                                               .linux_guest = 1};
+                                               .linux_guest = 1,
+                                               .event_limit = 4096,
+                                               .device_limit = UINT64_MAX,
+                                               .memory_limit = UINT64_MAX};
     const struct its_window_in window = {RAM, RAM_LENGTH};
     const struct its_redistributor_in redistributors[MOST_PROCESSORS] = {{0, 0, 0}};
     struct its_make_fault_out fault;
 
     must("its_new", its_new(&its, &numbers, &window, 1, NULL, 0, redistributors, vcpus_count, NULL, 0, NULL, 0,
                             NULL, 0, &fault));
-    must("its_limit", its_limit(&its, 4096));
 }
 
 /*

@@ -54,7 +54,8 @@ static void start(struct its_handle *its, uint32_t vcpus)
 {
     static uint8_t bytes[LPIS];
     uint64_t tables[MOST];
-    struct its_description_in numbers = {.vcpus = vcpus, .device_bits = 16, .lpi_bits = 20, .profile = 1, .config = CONFIG};
+    struct its_description_in numbers = {.vcpus = vcpus, .device_bits = 16, .lpi_bits = 20, .profile = 1, .config = CONFIG,
+                                         .event_limit = UINT64_MAX, .device_limit = UINT64_MAX, .memory_limit = UINT64_MAX};
     struct its_window_in window = {RAM, (uint64_t)1 << 30};
     struct its_fill_in fill = {CONFIG, sizeof bytes};
     struct its_make_fault_out unmade;

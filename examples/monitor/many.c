@@ -68,7 +68,8 @@ static void start(struct its_handle *its)
     static const struct its_redistributor_in off[VCPUS];
     static const struct its_window_in window = {0x80000000, 0x8000000};
     const struct its_description_in numbers = {
-        .vcpus = VCPUS, .device_bits = 16, .lpi_bits = 16, .profile = 1, .programmed = 1};
+        .vcpus = VCPUS, .device_bits = 16, .lpi_bits = 16, .profile = 1, .programmed = 1,
+        .event_limit = UINT64_MAX, .device_limit = UINT64_MAX, .memory_limit = UINT64_MAX};
     struct its_make_fault_out fault;
     uint8_t enabled[TARGETS];
     uint32_t i;

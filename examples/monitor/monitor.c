@@ -65,6 +65,9 @@ static struct its_description_in description(void)
     numbers.config = CONFIG;
     numbers.has_frames = 1;
     numbers.frames = FRAMES;
+    numbers.event_limit = UINT64_MAX;
+    numbers.device_limit = UINT64_MAX;
+    numbers.memory_limit = UINT64_MAX;
     return numbers;
 }
 
@@ -125,9 +128,9 @@ static uint64_t copy_needed(struct its_handle *its)
 /* The words of a report of `its run`. */
 static void tell_step(const struct its_step_out *step)
 {
-    static const char *const names[] = {"mapd", "mapc", "mapti"};
+    static const char *const names[] = {"mapd", "mapc", "mapti", NULL, "inv"};
     printf("step -> %s", word(ITS_LIST_OUTCOMES, step->outcome));
-    if (step->outcome == ITS_OUTCOME_RAN && step->op >= 8 && step->op <= 10)
+    if (step->outcome == ITS_OUTCOME_RAN && step->op >= 8 && step->op <= 12 && names[step->op - 8])
         printf(" %s", names[step->op - 8]);
     printf("\n");
 }
@@ -154,6 +157,54 @@ static void run(struct its_handle *its)
             return;
         printf("%" PRIu64 " stretches were read, processors %" PRIx64 " are concerned\n", stretches, step.concerned[0]);
     }
+}
+
+/* Adds a stretch and its bytes to what is lent. One that the guest has no memory for is lent no bytes. */
+static void lend(struct its_stretch_out s, struct its_stretch_out *list, size_t *lent, uint8_t *bytes, size_t *size)
+{
+    if (!is_ram(s))
+        return;
+    memcpy(bytes + *size, ram + (s.address - RAM), s.length);
+    *size += s.length;
+    list[(*lent)++] = s;
+}
+
+/*
+ * Takes a command whose bytes are lent for the one step: the library holds nothing of them then. The
+ * command is copied once, so what is asked about it and what is taken are the same. At most one command
+ * and the LPI table of each processor are read.
+ */
+static void run_lent(struct its_handle *its)
+{
+    static uint8_t bytes[32 + 2 * 65536];
+    struct its_stretch_out needed[3], list[3];
+    struct its_step_out step;
+    uint64_t count, i;
+    size_t lent = 0, size = 0;
+    made("its_needs", its_needs(its, needed, 3, &count));
+    if (count == 0)
+        return;
+    lend(needed[0], list, &lent, bytes, &size);
+    if (lent == 1) {
+        made("its_needs_of", its_needs_of(its, bytes, 32, needed, 3, &count));
+        for (i = 1; i < count; i++)
+            lend(needed[i], list, &lent, bytes, &size);
+    }
+    made("its_step_with", its_step_with(its, list, lent, bytes, size, &step));
+    tell_step(&step);
+    printf("%zu stretches were lent, processors %" PRIx64 " are concerned\n", lent, step.concerned[0]);
+}
+
+/* INV 7 2, of which the library has neither the command nor the byte that it reads. */
+static void read_again(struct its_handle *its)
+{
+    static const uint64_t command[4] = {0x000000070000000c, 2, 0, 0};
+    int i;
+    for (i = 0; i < 32; i++)
+        ram[QUEUE - RAM + 96 + i] = (uint8_t)(command[i / 8] >> 8 * (i % 8));
+    ram[CONFIG - RAM] = 0xc1;
+    store(its, CWRITER, 8, 128);
+    run_lent(its);
 }
 
 /* What the guest's driver does: it sets the translator up and maps event 2 of device 7. */
@@ -365,7 +416,7 @@ int main(void)
     struct its_save_fault_out fault;
 
     start(&first);
-    made("its_limit", its_limit(&first, 0));
+    made("its_limits", its_limits(&first, 0, UINT64_MAX, UINT64_MAX));
     drive(&first);
     lead(&first, 7, 2);
     send(&first, 7, 2);
@@ -388,6 +439,12 @@ int main(void)
     acknowledge_best(&second, 1, 0xff);
     made("its_forget", its_forget(&second, TRANSLATIONS, 0x10000));
     list_pages(&second);
+    made("its_forget", its_forget(&second, RAM, RAM_SIZE));
+    list_pages(&second);
+    read_again(&second);
+    list_pages(&second);
+    send(&second, 7, 2);
+    acknowledge(&second, 1);
     misuse(&second, &first);
     made("its_free", its_free(&second));
     programmed();

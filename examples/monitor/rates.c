@@ -221,7 +221,8 @@ static void start(struct caller *root)
     static const struct its_window_in window = {0x80000000, 0x1000000};
     static const struct its_fill_in fill = {0x80030000, 57344};
     static uint8_t bytes[57344];
-    struct its_description_in numbers = {.vcpus = VCPUS, .device_bits = 16, .lpi_bits = 16, .profile = 1, .config = CONFIG};
+    struct its_description_in numbers = {.vcpus = VCPUS, .device_bits = 16, .lpi_bits = 16, .profile = 1, .config = CONFIG,
+                                         .event_limit = UINT64_MAX, .device_limit = UINT64_MAX, .memory_limit = UINT64_MAX};
     struct its_make_fault_out fault;
     uint64_t pending[VCPUS], i;
 

@@ -150,7 +150,8 @@ static void play(void)
     static const uint8_t byte = 0xa1;
     static const uint64_t commands[12] = {0x0000000700000008, 3, 0x80000000800c0000, 0, 9, 0, 0x8000000000010000, 0,
                                           0x000000070000000a, 0x0000200000000002, 0, 0};
-    struct its_description_in numbers = {.vcpus = 2, .device_bits = 16, .lpi_bits = 16, .profile = 1, .config = 0x80030000, .has_frames = 1, .frames = 0x90000000};
+    struct its_description_in numbers = {.vcpus = 2, .device_bits = 16, .lpi_bits = 16, .profile = 1, .config = 0x80030000, .has_frames = 1, .frames = 0x90000000,
+                                          .event_limit = UINT64_MAX, .device_limit = UINT64_MAX, .memory_limit = UINT64_MAX};
     static const struct its_requesters_in requesters[1] = {{1, 1, 7}};
     struct its_handle its = ITS_NO_MACHINE;
     struct its_make_fault_out unmade;

@@ -127,7 +127,8 @@ static void start(struct its_handle *its, uint64_t events)
     static const struct its_redistributor_in off[VCPUS];
     const struct its_window_in window = {RAM, 1024 * MIB};
     const struct its_description_in numbers = {
-        .vcpus = VCPUS, .device_bits = 16, .lpi_bits = 16, .profile = 1, .programmed = 1};
+        .vcpus = VCPUS, .device_bits = 16, .lpi_bits = 16, .profile = 1, .programmed = 1,
+        .event_limit = UINT64_MAX, .device_limit = UINT64_MAX, .memory_limit = UINT64_MAX};
     struct its_make_fault_out fault;
     made("its_new", its_new(its, &numbers, &window, 1, NULL, 0, off, VCPUS, NULL, 0, NULL, 0, NULL, 0, &fault));
     turn_on(its, 0, CONFIG);

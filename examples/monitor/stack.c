@@ -29,6 +29,9 @@ static struct its_event_out led;
 static struct its_ack_out ack;
 static struct its_step_out stepped;
 static struct its_stretch_out stretches[16];
+static struct its_device_out devices[4];
+static struct its_mapping_out mappings[4];
+static struct its_collection_out collections[4];
 static struct its_save_fault_out unsaved;
 static struct its_make_fault_out unmade;
 static uint8_t memory[RAM_BYTES], bytes[64];
@@ -148,6 +151,9 @@ CALL(limit, its_limit(&its, 100000))
 CALL(save, its_save(&its, &unsaved))
 CALL(saved, its_written(&its, stretches, 16, &count))
 CALL(migrate, its_migrate(&its, &unsaved))
+CALL(list_devices, its_list_devices(&its, 0, devices, 4, &count))
+CALL(list_events, its_list_events(&its, 7, 0, mappings, 4, &count))
+CALL(list_collections, its_list_collections(&its, 0, collections, 4, &count))
 CALL(text, its_text(ITS_LIST_ANSWERS, 1, bytes, 64, &count))
 
 CALL(share, its_share(&root, &numbers, (struct its_window_in[]){{RAM, RAM_BYTES}}, 1, NULL, 0, redistributors, VCPUS,
@@ -175,6 +181,14 @@ CALL(pass_step, its_pass_step(&pass, &place, &stepped))
 CALL(pass_write_memory, its_pass_write_memory(&pass, RAM + 0x140000, bytes, 64, &place))
 CALL(pass_read_memory, its_pass_read_memory(&pass, RAM + 0x140000, bytes, 64, &place))
 CALL(pass_save, its_pass_save(&pass, &place, &unsaved))
+CALL(pass_event, its_pass_event(&pass, 7, 2, &place, &led))
+CALL(pass_pending, its_pass_pending(&pass, 0, &place, list, 64, &count))
+CALL(pass_stored, its_pass_stored_lpi_registers(&pass, 0, &place, &redistributors[0]))
+CALL(pass_needs, its_pass_needs(&pass, &place, stretches, 16, &count))
+CALL(pass_saved, its_pass_written(&pass, &place, stretches, 16, &count))
+CALL(pass_list_devices, its_pass_list_devices(&pass, 0, &place, devices, 4, &count))
+CALL(pass_list_events, its_pass_list_events(&pass, 7, 0, &place, mappings, 4, &count))
+CALL(pass_list_collections, its_pass_list_collections(&pass, 0, &place, collections, 4, &count))
 
 /* Each command once: device 7 with 16 events, device 8 with 32,768, collections 0 and 1. */
 static const uint64_t commands[][4] = {
@@ -206,7 +220,8 @@ static const uint64_t bases[3][2] = {
 static void describe(void)
 {
     numbers = (struct its_description_in){.vcpus = VCPUS, .device_bits = 16, .lpi_bits = 16, .profile = 2, .programmed = 1,
-                                          .has_frames = 1, .frames = FRAMES};
+                                          .has_frames = 1, .frames = FRAMES,
+                                          .event_limit = UINT64_MAX, .device_limit = UINT64_MAX, .memory_limit = UINT64_MAX};
     memset(redistributors, 0, sizeof redistributors);
     memset(memory, 0xa1, sizeof memory);
     queue_at = 0;
@@ -228,11 +243,15 @@ static void describe_restored(void)
     read_memory();
 }
 
-/* The deepest of all commands' steps. */
-static size_t steps(int shared, void (*act)(void), void (*kick)(void))
+static size_t deepest_needs;
+
+/* The deepest of all commands' steps, and of what is asked before them. */
+static size_t steps(int shared, void (*act)(void), void (*kick)(void), void (*ask)(void))
 {
     size_t most = 0, depth;
     uint32_t i;
+
+    deepest_needs = 0;
 
     for (i = 0; i < COMMANDS; i++) {
         const uint8_t *from = (const uint8_t *)commands[i];
@@ -241,6 +260,9 @@ static size_t steps(int shared, void (*act)(void), void (*kick)(void))
         made("a write of the queue");
         queue_at += 32;
         kick();
+        depth = depth_of(ask);
+        made("what a step needs");
+        deepest_needs = depth > deepest_needs ? depth : deepest_needs;
         depth = depth_of(act);
         made("a step");
         if (stepped.outcome != ITS_OUTCOME_RAN) {
@@ -270,9 +292,12 @@ static void life_of_one(void)
     tell("its_stored_lpi_registers", stored);
     tell_beside("its_write_register", enable, depth_of(write_register));
     tell("its_read_register", read_register);
-    printf("%-28s %6zu\n", "its_step", steps(0, step, write_register));
-    tell("its_needs", needs);
+    printf("%-28s %6zu\n", "its_step", steps(0, step, write_register, needs));
+    printf("%-28s %6zu\n", "its_needs", deepest_needs);
     tell("its_limit", limit);
+    tell("its_list_devices", list_devices);
+    tell("its_list_events", list_events);
+    tell("its_list_collections", list_collections);
     tell("its_signal", send);
     tell("its_event", event);
     tell("its_pending", pending);
@@ -321,9 +346,16 @@ static void life_of_a_pass(void)
     tell("its_pass_read_lpi_register", pass_read_lpi_register);
     tell_beside("its_pass_write_register", pass_enable, depth_of(pass_write_register));
     tell("its_pass_read_register", pass_read_register);
-    printf("%-28s %6zu\n", "its_pass_step", steps(1, pass_step, pass_write_register));
+    printf("%-28s %6zu\n", "its_pass_step", steps(1, pass_step, pass_write_register, pass_needs));
+    printf("%-28s %6zu\n", "its_pass_needs", deepest_needs);
+    tell("its_pass_list_devices", pass_list_devices);
+    tell("its_pass_list_events", pass_list_events);
+    tell("its_pass_list_collections", pass_list_collections);
+    tell("its_pass_stored_lpi_registers", pass_stored);
     size_t miss = depth_of(pass_send);
     tell_beside("its_pass_signal", pass_send, miss);
+    tell("its_pass_event", pass_event);
+    tell("its_pass_pending", pass_pending);
     tell("its_pass_show", pass_show);
     tell("its_pass_best", pass_best);
     tell("its_pass_claim", pass_claim);
@@ -342,6 +374,7 @@ static void machine_that_threads_share(void)
     tell("its_pass_write_memory", pass_write_memory);
     tell("its_pass_read_memory", pass_read_memory);
     tell("its_pass_save", pass_save);
+    tell("its_pass_written", pass_saved);
     tell("its_pass_free", end_pass);
     tell("its_pass_free, the last one", end_root);
     describe_restored();

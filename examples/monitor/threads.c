@@ -1,203 +1,47 @@
 /*
  * A monitor whose threads call one machine at once: two device threads signal and write data beside, a
- * thread for each of four virtual processors acknowledges, one puts commands into the queue and steps, and
- * the tables are saved while they run. Each reply is written down with its place, and all are printed in
- * the order of their places, behind a script of the same calls: what `its check` reads.
+ * thread for each of four virtual processors acknowledges, one puts commands into the queue, copies in what
+ * each needs and steps, and the tables are saved while they run. Each reply is written down with its place,
+ * and all are printed in the order of their places, behind a script of the same calls: what `its check` reads.
  *
  * usage: threads [SIGNALS]   how many signals each device makes at least; 500 without it
  */
-#include "its_wait.h"
+#include "callers.h"
 
-#include <inttypes.h>
 #include <pthread.h>
-#include <stdarg.h>
 #include <stdatomic.h>
-#include <stdio.h>
-#include <stdlib.h>
-#include <string.h>
 
 #define VCPUS 4
 #define DEVICES 2
 #define EVENTS 16
 #define THREADS (DEVICES + VCPUS + 2)
 #define LPIS (DEVICES * EVENTS)
-#define CALLS 60000
 #define QUEUE 0x80020000u
 #define CONFIG 0x80030000u
 #define ITTS 0x800c0000u
 #define DATA 0x80100000u
 #define QUEUE_BYTES 0x1000u
 
-/* A call that was made, of the thread that has it. */
-struct call {
-    uint64_t place;
-    char asked[96];
-    char replied[32];
-};
-
-/* A thread with its pass, and its calls in their order. Thread 1 of the first phase is the root. */
-struct caller {
-    struct its_pass pass;
-    uint32_t phase;
-    uint32_t number;
-    uint32_t count;
-    uint64_t busy;
-    struct call *calls;
-};
-
 static atomic_uint devices_left = DEVICES;
-static atomic_uint saves_made;
+static atomic_uint saves_made, saves_told;
 static uint32_t signals = 500;
 
-static void fail(const char *what, uint32_t code)
-{
-    fprintf(stderr, "%s answered %" PRIu32 "\n", what, code);
-    exit(1);
-}
-
-/* Whether a call is to be made again: after ITS_BUSY, when it has been waited. */
-static int again(struct caller *caller, uint32_t code, uint32_t *round)
-{
-    if (code != ITS_BUSY)
-        return 0;
-    caller->busy++;
-    if (!its_wait((*round)++, 10000 * ITS_ROUNDS))
-        fail("a call that waited for ten seconds", code);
-    return 1;
-}
-
-/* Writes a call down that was made. */
-static void note(struct caller *caller, uint64_t place, const char *replied, const char *asked, ...)
-{
-    struct call *call;
-    va_list list;
-
-    if (caller->count == CALLS)
-        fail("too many calls: the last one", 0);
-    call = &caller->calls[caller->count++];
-    call->place = place;
-    snprintf(call->replied, sizeof call->replied, "%s", replied);
-    va_start(list, asked);
-    vsnprintf(call->asked, sizeof call->asked, asked, list);
-    va_end(list);
-}
-
-static void write_bytes(struct caller *caller, uint64_t address, const uint8_t *bytes, size_t length)
-{
-    uint64_t place = 0;
-    uint32_t code, round = 0;
-    char hex[2 * 64 + 1];
-    size_t i;
-
-    do
-        code = its_pass_write_memory(&caller->pass, address, bytes, length, &place);
-    while (again(caller, code, &round));
-    if (code != ITS_DONE && code != ITS_OUTSIDE)
-        fail("its_pass_write_memory", code);
-    for (i = 0; i < length; i++)
-        snprintf(hex + 2 * i, 3, "%02x", bytes[i]);
-    note(caller, place, code == ITS_DONE ? "ok" : "outside", "poke 0x%" PRIx64 " %s", address, hex);
-}
-
-static void write_register(struct caller *caller, uint32_t offset, uint32_t size, uint64_t value)
-{
-    uint64_t place = 0;
-    uint32_t code, round = 0;
-
-    do
-        code = its_pass_write_register(&caller->pass, offset, size, value, &place);
-    while (again(caller, code, &round));
-    if (code != ITS_DONE)
-        fail("its_pass_write_register", code);
-    note(caller, place, "ok", "write 0x%" PRIx32 " %" PRIu32 " 0x%" PRIx64, offset, size, value);
-}
-
-static void signal_event(struct caller *caller, uint32_t device, uint32_t event)
-{
-    static const char *const causes[] = {"", "disabled", "no-device", "no-event", "no-collection", "lpis-off"};
-    struct its_signal_out out;
-    uint64_t place = 0;
-    uint32_t code, round = 0;
-    char replied[32];
-
-    do
-        code = its_pass_signal(&caller->pass, device, event, &place, &out);
-    while (again(caller, code, &round));
-    if (code != ITS_DONE)
-        fail("its_pass_signal", code);
-    if (out.cause == ITS_CAUSE_DELIVERED)
-        snprintf(replied, sizeof replied, "delivered %" PRIu32 " %" PRIu32, out.vcpu, out.intid);
-    else
-        snprintf(replied, sizeof replied, "dropped %s", causes[out.cause]);
-    note(caller, place, replied, "signal %" PRIu32 " %" PRIu32, device, event);
-}
-
-/* Whether there was an LPI. */
-static int take(struct caller *caller, uint32_t vcpu)
-{
-    struct its_ack_out out;
-    uint64_t place = 0;
-    uint32_t code, round = 0;
-    char replied[32] = "none";
-
-    do
-        code = its_pass_take(&caller->pass, vcpu, &place, &out);
-    while (again(caller, code, &round));
-    if (code != ITS_DONE)
-        fail("its_pass_take", code);
-    if (out.intid != 0)
-        snprintf(replied, sizeof replied, "lpi %" PRIu32 " 0x%" PRIx32, out.intid, out.priority);
-    note(caller, place, replied, "take %" PRIu32, vcpu);
-    return out.intid != 0;
-}
-
-static void step(struct caller *caller)
-{
-    static const char *const ops[16] = {
-        "0x0", "movi", "0x2", "int", "clear", "sync", "0x6", "0x7",
-        "mapd", "mapc", "mapti", "mapi", "inv", "invall", "movall", "discard"};
-    struct its_step_out out;
-    uint64_t place = 0;
-    uint32_t code, round = 0;
-    char replied[32];
-
-    do
-        code = its_pass_step(&caller->pass, &place, &out);
-    while (again(caller, code, &round));
-    if (code != ITS_DONE)
-        fail("its_pass_step", code);
-    if (out.outcome != ITS_OUTCOME_RAN || out.op >= 16)
-        fail("a step that ran no command", out.outcome);
-    snprintf(replied, sizeof replied, "ran %s", ops[out.op]);
-    note(caller, place, replied, "step");
-}
-
-static void save(struct caller *caller)
-{
-    struct its_save_fault_out fault;
-    uint64_t place = 0;
-    uint32_t code, round = 0;
-
-    do
-        code = its_pass_save(&caller->pass, &place, &fault);
-    while (again(caller, code, &round));
-    if (code != ITS_DONE)
-        fail("its_pass_save", code);
-    note(caller, place, "saved", "save");
-}
-
-/* Puts a command into the queue at an offset, and takes it. The offset after it. */
+/* The guest puts a command into its queue at an offset, and the monitor takes it. The offset after it. */
 static uint32_t command(struct caller *caller, uint32_t at, uint64_t dw0, uint64_t dw1, uint64_t dw2)
 {
     uint64_t words[4] = {dw0, dw1, dw2, 0};
-    uint8_t bytes[32];
-    uint32_t i;
+    struct its_stretch_out list[2];
+    size_t i, count;
 
     for (i = 0; i < 32; i++)
-        bytes[i] = (uint8_t)(words[i / 8] >> 8 * (i % 8));
-    write_bytes(caller, QUEUE + at, bytes, sizeof bytes);
+        ram[QUEUE - RAM + at + i] = (uint8_t)(words[i / 8] >> 8 * (i % 8));
     at = (at + 32) % QUEUE_BYTES;
     write_register(caller, 0x88, 8, at);
+    (void)needs(caller, list, 2);
+    copy_in(caller, &list[0]); /* so that the command is known */
+    count = needs(caller, list, 2);
+    for (i = 1; i < count; i++)
+        copy_in(caller, &list[i]);
     step(caller);
     return at;
 }
@@ -254,7 +98,8 @@ static void *vcpu_thread(void *argument)
                 return NULL;
             if (caller->count > CALLS - 1000)
                 return NULL;
-            (void)poll(NULL, 0, 1);
+            if (pending(caller, vcpu) == 0)
+                (void)poll(NULL, 0, 1);
         }
         last = left;
     }
@@ -270,10 +115,12 @@ static void *command_thread(void *argument)
 
     for (i = 0; atomic_load(&devices_left) != 0 && caller->count < CALLS - 1000; i++) {
         uint64_t device = 16 + i % DEVICES, event = i / DEVICES % EVENTS;
-        if (i % 3 == 0)
+        if (i % 3 == 0) {
             queue_at = command(caller, queue_at, device << 32 | 12, event, 0);
-        else
+        } else {
             queue_at = command(caller, queue_at, device << 32 | 1, event, (event + i) % VCPUS);
+            check_lead(caller, (uint32_t)device, (uint32_t)event, (uint32_t)((event + i) % VCPUS));
+        }
         (void)sched_yield();
     }
     return NULL;
@@ -282,13 +129,37 @@ static void *command_thread(void *argument)
 static void *saving_thread(void *argument)
 {
     struct caller *caller = argument;
+    struct its_stretch_out tables[TABLES];
 
     do {
-        save(caller);
+        if (written(caller, save(caller), tables) != 0)
+            atomic_fetch_add(&saves_told, 1);
         atomic_fetch_add(&saves_made, 1);
         (void)poll(NULL, 0, 2);
     } while (atomic_load(&devices_left) != 0);
     return NULL;
+}
+
+/* All is at rest: what is mapped, and the tables of a save, of which the beginnings are read. */
+static void look_around(struct caller *root)
+{
+    struct its_stretch_out tables[TABLES];
+    struct its_device_out device;
+    uint32_t from = 0, i;
+    size_t count;
+
+    for (i = 0; next_device(root, from, &device); i++) {
+        if (device.device != 16 + i || device.event_bits != 4 || device.itt != ITTS + 256 * i)
+            fail("its_pass_list_devices", device.device);
+        from = device.device + 1;
+    }
+    if (i != DEVICES)
+        fail("its_pass_list_devices", i);
+    count = written(root, save(root), tables);
+    if (count == 0)
+        fail("its_pass_written", 0);
+    while (count-- > 0)
+        read_bytes(root, tables[count].address, tables[count].length < 64 ? (size_t)tables[count].length : 64);
 }
 
 static struct caller caller_of(uint32_t phase, uint32_t number)
@@ -372,7 +243,7 @@ static void print_all(const struct caller *root, uint32_t driven, const struct c
 
 static void share(struct its_pass *root)
 {
-    static const struct its_window_in window = {0x80000000u, 0x200000};
+    static const struct its_window_in window = {RAM, RAM_BYTES};
     static const struct its_fill_in fill = {CONFIG, LPIS};
     struct its_description_in numbers = {0};
     struct its_make_fault_out fault;
@@ -385,9 +256,13 @@ static void share(struct its_pass *root)
     numbers.lpi_bits = 16;
     numbers.profile = 1;
     numbers.config = CONFIG;
+    numbers.event_limit = UINT64_MAX;
+    numbers.device_limit = UINT64_MAX;
+    numbers.memory_limit = UINT64_MAX;
     for (i = 0; i < VCPUS; i++)
         pending[i] = 0x80040000u + 0x10000u * i;
     memset(bytes, 0xa1, sizeof bytes);
+    memset(ram + (CONFIG - RAM), 0xa1, sizeof bytes);
     code = its_share(root, &numbers, &window, 1, pending, VCPUS, NULL, 0, NULL, 0, &fill, 1, bytes, LPIS, &fault);
     if (code != ITS_DONE)
         fail("its_share", code);
@@ -421,6 +296,7 @@ int main(int argc, char **argv)
     for (i = 0; i < VCPUS; i++)
         while (take(&root, i))
             ;
+    look_around(&root);
     print_all(&root, driven, callers);
     code = its_pass_free(&root.pass);
     for (i = 0; i < THREADS && code == ITS_DONE; i++) {
@@ -431,6 +307,7 @@ int main(int argc, char **argv)
     if (code != ITS_DONE)
         fail("its_pass_free", code);
     free(root.calls);
-    fprintf(stderr, "busy tries: %" PRIu64 "\n", busy);
+    fprintf(stderr, "busy tries: %" PRIu64 ", saves whose tables were told: %u of %u\n", busy, atomic_load(&saves_told),
+            atomic_load(&saves_made));
     return 0;
 }

@@ -49,7 +49,8 @@ static void made(const char *call, uint32_t answer)
 static void start(struct its_handle *its, uint64_t length)
 {
     static uint8_t bytes[57344];
-    struct its_description_in numbers = {.vcpus = 2, .device_bits = 16, .lpi_bits = 16, .profile = 1, .config = CONFIG};
+    struct its_description_in numbers = {.vcpus = 2, .device_bits = 16, .lpi_bits = 16, .profile = 1, .config = CONFIG,
+                                         .event_limit = UINT64_MAX, .device_limit = UINT64_MAX, .memory_limit = UINT64_MAX};
     struct its_window_in window = {RAM, length};
     struct its_fill_in fill = {CONFIG, sizeof bytes};
     struct its_make_fault_out unmade;
@@ -124,7 +125,8 @@ static void new_and_free(uint64_t length)
 static void start_many(struct its_handle *its, uint64_t apart)
 {
     static const struct its_redistributor_in off[VCPUS];
-    struct its_description_in numbers = {.vcpus = VCPUS, .device_bits = 16, .lpi_bits = 16, .profile = 1, .programmed = 1};
+    struct its_description_in numbers = {.vcpus = VCPUS, .device_bits = 16, .lpi_bits = 16, .profile = 1, .programmed = 1,
+                                         .event_limit = UINT64_MAX, .device_limit = UINT64_MAX, .memory_limit = UINT64_MAX};
     struct its_window_in window = {RAM, (uint64_t)1 << 30};
     struct its_make_fault_out unmade;
     made("its_new", its_new(its, &numbers, &window, 1, NULL, 0, off, VCPUS, NULL, 0, NULL, 0, NULL, 0, &unmade));

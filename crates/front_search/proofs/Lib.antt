@@ -1,2 +1,4 @@
+mod AtOnce
+mod Exchange
 mod States
 mod Trails

@@ -1,14 +1,14 @@
 -- What the program's moves of a search leave true.
-use Rattle.std.proofs.Common.{◌≡◌, ℕ, ◌+◌, ◌-◌, ◌^◌, ◌<◌, ◌≤◌, List, [], ◌∷◌, ◌++◌, length, take, Option, Some, None, refl, sym, ap, subst, ◌∙◌, inl, inr, arith, append-nil, length-append}
+use Rattle.std.proofs.Common.{◌≡◌, ℕ, ◌+◌, ◌-◌, ◌*◌, ◌<◌, ◌≤◌, List, [], ◌∷◌, ◌++◌, length, take, Option, Some, None, refl, sym, ap, subst, ◌∙◌, inl, inr, arith, append-nil, length-append}
 use Rattle.std.specs.Prelude.{MatchOption, option_to_list}
 use Rattle.std.proofs.lemmas.List.{length-replicate, length-set}
 use Rattle.front_search.specs.Fits.{Answers, Leads, Fits}
-use Rattle.front_search.specs.Fronts.{Threads, Front, MayGo, placed, start}
+use Rattle.front_search.specs.Fronts.{Threads, Front, MayGo, more, placed, start}
 use Rattle.front_search.specs.Moves.{IsEmpty, IsKept, IsNew, IsPlaced, IsReturned, IsSkipped, IsTaken, threads_of}
-use Rattle.front_search.specs.Trails.{NoneBelow, Steps, Trail, IsAt, IsReached, NoneFits}
+use Rattle.front_search.specs.Trails.{NoneBelow, IsEnough, Steps, Trail, GoesOn, IsAt, IsReached, NoneFits}
 use Rattle.front_search.specs.declared.trail.Placed.{Placed}
 use Rattle.front_search.specs.declared.trail.Search.{Search}
-use Rattle.front_search.proofs.Trails.{BackAt, back_at, below_miss, below_skip, leads_fit, none_fits, none_yet, placed_so, trail_leads, trail_more}
+use Rattle.front_search.proofs.Trails.{BackAt, back_at, below_miss, leads_fit, none_fits, none_yet, placed_so, trail_leads, trail_more}
 
 -- ---- the same by other names
 
@@ -45,51 +45,73 @@ at_start {S = S} went IsEnd threads first s n = record {
 
 -- ---- one more call
 
-pub at_placed : {S : Type 0} (went : Answers S) (IsEnd : S → Type 0) (threads : Threads) (first : S) (s t : Search S) (i : ℕ) (w u : S) (k : ℕ)
+pub at_placed : {S : Type 0} (went : Answers S) (IsEnd : S → Type 0) (threads : Threads) (first : S) (s t : Search S) (i n : ℕ) (w u : S) (k : ℕ)
     → u ≡ s.state → k ≡ placed s.front.items i → MayGo threads s.front.items i → went u i k w → ((x : S) → went u i k x → x ≡ w)
-    → ((j : ℕ) → s.next ≤ j → j < i → ¬ MayGo threads s.front.items j) → i + 1 < 2 ^ 64 → IsPlaced i w s t → IsAt went IsEnd threads first s
+    → IsEnough went IsEnd threads s.front.items s.state i n → IsPlaced i n w s t → IsAt went IsEnd threads first s
     → IsAt went IsEnd threads first t
-at_placed {S = S} went IsEnd threads first s t i w u k ue ke may_go answered one between fits p here =
-    let call : Placed S = record { thread = i; before = s.state } in
+at_placed {S = S} went IsEnd threads first s t i n w u k ue ke may_go answered one enough p here =
+    let call : Placed S = record { thread = i; before = s.state; next = n } in
     let answered' : went s.state i (placed s.front.items i) w = subst (λ (n : ℕ). went s.state i n w) ke (subst (λ (x : S). went x i k w) ue answered) in
     let one' : (x : S) → went s.state i (placed s.front.items i) x → x ≡ w =
     λ x a. one x (subst (λ (y : S). went y i k x) (sym ue) (subst (λ (n : ℕ). went s.state i n x) (sym ke) a)) in
     let steps : Steps went IsEnd threads s.front.items s.state call w =
-    placed_so went IsEnd threads s.front.items s.state s.next i w may_go answered' one' here.none_below between fits in
+    placed_so went IsEnd threads s.front.items s.state i n w may_go answered' one' enough in
     record {
       trail = trail_at went IsEnd threads first (sym p.path) (sym p.front) (sym p.state_is)
           (trail_more went IsEnd threads (start threads) first s.path.items s.front.items s.state call w here.trail steps);
-      none_below = subst (λ (n : ℕ). NoneBelow went IsEnd threads t.front.items t.state n) (sym p.next) (none_yet went IsEnd threads t.front.items t.state);
+      none_below = subst (λ (m : ℕ). NoneBelow went IsEnd threads t.front.items t.state m) (sym p.starts) (none_yet went IsEnd threads t.front.items t.state);
       long = ap length p.front ∙ length-set s.front.items i (placed s.front.items i + 1) ∙ here.long;
       reached = subst (λ (order : List ℕ). IsReached went threads first order) (sym p.reached) here.reached;
     }
 
-pub path_placed : {S : Type 0} (i : ℕ) (w : S) (s t : Search S) → IsPlaced i w s t → length t.path.items ≤ length s.path.items + 1
-path_placed {S = S} i w s t p =
-    let call : Placed S = record { thread = i; before = s.state } in
+pub path_placed : {S : Type 0} (i n : ℕ) (w : S) (s t : Search S) → IsPlaced i n w s t → length t.path.items ≤ length s.path.items + 1
+path_placed {S = S} i n w s t p =
+    let call : Placed S = record { thread = i; before = s.state; next = n } in
     let e : length t.path.items ≡ length s.path.items + length (call ∷ []) = ap length p.path ∙ length-append s.path.items (call ∷ []) in
     omega (arith, e)
 
 -- ---- a thread that is left out
 
-pub at_skipped : {S : Type 0} (went : Answers S) (IsEnd : S → Type 0) (threads : Threads) (first : S) (s t : Search S) (i : ℕ) (u : S) (k : ℕ) → u ≡ s.state
-    → k ≡ placed s.front.items i → ((w : S) → ¬ went u i k w) → ((j : ℕ) → s.next ≤ j → j < i → ¬ MayGo threads s.front.items j) → IsSkipped i s t
+pub at_skipped : {S : Type 0} (went : Answers S) (IsEnd : S → Type 0) (threads : Threads) (first : S) (s t : Search S) (i n : ℕ) (u : S) (k : ℕ) → u ≡ s.state
+    → k ≡ placed s.front.items i → ((w : S) → ¬ went u i k w) → IsEnough went IsEnd threads s.front.items s.state i n → IsSkipped n s t
     → IsAt went IsEnd threads first s → IsAt went IsEnd threads first t
-at_skipped {S = S} went IsEnd threads first s t i u k ue ke miss between p here =
+at_skipped {S = S} went IsEnd threads first s t i n u k ue ke miss enough p here =
     let miss' : (w : S) → ¬ went s.state i (placed s.front.items i) w =
     λ w a. miss w (subst (λ (y : S). went y i k w) (sym ue) (subst (λ (n : ℕ). went s.state i n w) (sym ke) a)) in
-    let below : NoneBelow went IsEnd threads s.front.items s.state i =
-    below_skip went IsEnd threads s.front.items s.state s.next i here.none_below between in
     record {
       trail = trail_at went IsEnd threads first (sym p.path) (sym p.front) (sym p.state) here.trail;
-      none_below = none_at went IsEnd threads (sym p.front) (sym p.state) (sym p.next)
-          (below_miss went IsEnd threads s.front.items s.state i below miss');
+      none_below = none_at went IsEnd threads (sym p.front) (sym p.state) (sym p.goes_on)
+          (below_miss went IsEnd threads s.front.items s.state i n enough miss');
       long = ap length p.front ∙ here.long;
       reached = subst (λ (order : List ℕ). IsReached went threads first order) (sym p.reached) here.reached;
     }
 
-pub path_skipped : {S : Type 0} (i : ℕ) (s t : Search S) → IsSkipped i s t → length t.path.items ≤ length s.path.items + 1
-path_skipped i s t p = omega (arith, ap length p.path)
+pub path_skipped : {S : Type 0} (n : ℕ) (s t : Search S) → IsSkipped n s t → length t.path.items ≤ length s.path.items + 1
+path_skipped n s t p = omega (arith, ap length p.path)
+
+-- ---- a call more where no order fits
+
+pub at_run_on : {S : Type 0} (went : Answers S) (IsEnd : S → Type 0) (threads : Threads) (first : S) (s t v : Search S) (i n m : ℕ) (w : S)
+    → ((order : List ℕ) → ¬ Fits went IsEnd threads s.front.items s.state order) → GoesOn went threads s i w → IsPlaced i n w s t → IsSkipped m t v
+    → IsAt went IsEnd threads first s → IsAt went IsEnd threads first v
+at_run_on {S = S} went IsEnd threads first s t v i n m w none goes p k here =
+    let there : IsAt went IsEnd threads first t =
+    at_placed went IsEnd threads first s t i n w s.state (placed s.front.items i) refl refl goes.may_go goes.answered goes.one_state
+    (λ one j order lt f. none (j ∷ order) f) p here in
+    record {
+      trail = trail_at went IsEnd threads first (sym k.path) (sym k.front) (sym k.state) there.trail;
+      none_below = λ j order lt f.
+          let moved : Fits went IsEnd threads (more s.front.items i) w (j ∷ order) =
+          subst (λ (x : Front). Fits went IsEnd threads x w (j ∷ order)) (k.front ∙ p.front)
+          (subst (λ (x : S). Fits went IsEnd threads v.front.items x (j ∷ order)) (k.state ∙ p.state_is) f) in
+          none (i ∷ j ∷ order) (w, record { may_go = goes.may_go; answered = goes.answered }, moved);
+      long = ap length k.front ∙ there.long;
+      reached = subst (λ (order : List ℕ). IsReached went threads first order) (sym k.reached) there.reached;
+    }
+
+pub path_run_on : {S : Type 0} (s t v : Search S) (i n m : ℕ) (w : S) (a b : ℕ) → a < b → IsPlaced i n w s t → IsSkipped m t v
+    → 2 * a + length v.path.items < 2 * b + length s.path.items
+path_run_on s t v i n m w a b lt p k = let le : length t.path.items ≤ length s.path.items + 1 = path_placed i n w s t p in omega (arith, lt, le, ap length k.path)
 
 -- ---- the last call taken back
 

@@ -1,5 +1,5 @@
 -- Trails grow and shrink at their end.
-use Rattle.std.proofs.Common.{◌≡◌, ℕ, ◌+◌, ◌-◌, ◌^◌, ◌<◌, ◌≤◌, Bool, true, false, List, [], ◌∷◌, ◌++◌, length, map, Option, Some, None, refl, sym, ap, subst, ◌∙◌, inl, inr, arith}
+use Rattle.std.proofs.Common.{◌≡◌, ℕ, ◌+◌, ◌-◌, ◌<◌, ◌≤◌, Bool, true, false, List, [], ◌∷◌, ◌++◌, length, map, Option, Some, None, refl, sym, ap, subst, ◌∙◌, inl, inr, arith}
 use Rattle.std.proofs.lemmas.Bool.{cases_lt}
 use Rattle.std.proofs.lemmas.List.{get_or_past, get_or-set_same, length-set, set-set, set-get_or}
 use Rattle.std.specs.Prelude.{slice_get, slice_set}
@@ -7,7 +7,7 @@ use Rattle.std.specs.Bool.{Decides}
 use Rattle.front_search.specs.Fits.{Answers, Leads, Fits}
 use Rattle.front_search.specs.Fronts.{Threads, Front, MayGo, IsWhole, ReturnedBefore, next_of, more, placed, start}
 use Rattle.front_search.specs.Moves.{less}
-use Rattle.front_search.specs.Trails.{NoneBelow, Steps, Trail}
+use Rattle.front_search.specs.Trails.{IsEnough, NoneBelow, Steps, Trail}
 use Rattle.front_search.specs.declared.trail.Placed.{Placed}
 use Rattle.front_search.specs.declared.span.Span.{Span}
 
@@ -16,7 +16,7 @@ use Rattle.front_search.specs.declared.span.Span.{Span}
 pub next_past : (threads : Threads) (front : Front) (i : ℕ) → length threads ≤ i → next_of threads front i ≡ None
 next_past threads front i le = ap (λ (calls : List Span). slice_get calls (placed front i)) (get_or_past threads i [] le)
 
-clash : (s : Span) (o : Option Span) → o ≡ Some s → o ≡ None → ⊥
+pub clash : (s : Span) (o : Option Span) → o ≡ Some s → o ≡ None → ⊥
 clash s o a b = let e : Some s ≡ None = sym a ∙ b in cc e
 
 pub go_below : (threads : Threads) (front : Front) (i : ℕ) → MayGo threads front i → i < length threads
@@ -104,42 +104,38 @@ not_again {S = S} went IsEnd threads front u i j w e one none order f =
 -- the last call is taken back
 pub below_more : {S : Type 0} (went : Answers S) (IsEnd : S → Type 0) (threads : Threads) (front : Front) (u : S) (p : Placed S) (w : S)
     → Steps went IsEnd threads front u p w → ((order : List ℕ) → ¬ Fits went IsEnd threads (more front p.thread) w order)
-    → NoneBelow went IsEnd threads front u (p.thread + 1)
-below_more went IsEnd threads front u p w s none j order lt f =
-    elim (cases_lt j p.thread) [
-      | inl low ↦ s.none_below j order low f
-      | inr le ↦ not_again went IsEnd threads front u p.thread j w (omega arith) s.one_state none order f
+    → NoneBelow went IsEnd threads front u p.next
+below_more went IsEnd threads front u p w s none =
+    s.enough (λ order f. not_again went IsEnd threads front u p.thread p.thread w refl s.one_state none order f)
+
+-- the least thread that may go is enough for those up to it
+pub enough_least : {S : Type 0} (went : Answers S) (IsEnd : S → Type 0) (threads : Threads) (front : Front) (u : S) (n i : ℕ) → NoneBelow went IsEnd threads front u n
+    → ((j : ℕ) → n ≤ j → j < i → ¬ MayGo threads front j) → IsEnough went IsEnd threads front u i (i + 1)
+enough_least went IsEnd threads front u n i below between none j order lt f =
+    elim (cases_lt j n) [
+      | inl low ↦ below j order low f
+      | inr le ↦ elim (cases_lt j i) [
+        | inl lower ↦ between j le lower f.1.may_go
+        | inr up ↦ let same : j ≡ i = omega arith in none order (subst (λ (k : ℕ). Fits went IsEnd threads front u (k ∷ order)) same f)
+      ]
     ]
 
--- threads between may not go
-pub below_skip : {S : Type 0} (went : Answers S) (IsEnd : S → Type 0) (threads : Threads) (front : Front) (u : S) (n i : ℕ) → NoneBelow went IsEnd threads front u n
-    → ((j : ℕ) → n ≤ j → j < i → ¬ MayGo threads front j) → NoneBelow went IsEnd threads front u i
-below_skip went IsEnd threads front u n i below between j order lt f =
-    elim (cases_lt j n) [ inl low ↦ below j order low f | inr le ↦ between j le lt f.1.may_go ]
-
 -- a call is answered otherwise
-missed : {S : Type 0} (went : Answers S) (IsEnd : S → Type 0) (threads : Threads) (front : Front) (u : S) (i j : ℕ) (order : List ℕ)
-    → ((w : S) → ¬ went u i (placed front i) w) → j ≡ i → ¬ Fits went IsEnd threads front u (j ∷ order)
-missed went IsEnd threads front u i j order miss e f = miss f.0 (subst (λ (k : ℕ). went u k (placed front k) f.0) e f.1.answered)
-
-pub below_miss : {S : Type 0} (went : Answers S) (IsEnd : S → Type 0) (threads : Threads) (front : Front) (u : S) (i : ℕ)
-    → NoneBelow went IsEnd threads front u i → ((w : S) → ¬ went u i (placed front i) w) → NoneBelow went IsEnd threads front u (i + 1)
-below_miss went IsEnd threads front u i below miss j order lt f =
-    elim (cases_lt j i) [ inl low ↦ below j order low f | inr le ↦ missed went IsEnd threads front u i j order miss (omega arith) f ]
+pub below_miss : {S : Type 0} (went : Answers S) (IsEnd : S → Type 0) (threads : Threads) (front : Front) (u : S) (i n : ℕ)
+    → IsEnough went IsEnd threads front u i n → ((w : S) → ¬ went u i (placed front i) w) → NoneBelow went IsEnd threads front u n
+below_miss went IsEnd threads front u i n enough miss = enough (λ order f. miss f.0 f.1.answered)
 
 -- ---- one step on, and one back
 
 -- a thread is found whose next call goes
-pub placed_so : {S : Type 0} (went : Answers S) (IsEnd : S → Type 0) (threads : Threads) (front : Front) (u : S) (n i : ℕ) (w : S) → MayGo threads front i
-    → went u i (placed front i) w → ((x : S) → went u i (placed front i) x → x ≡ w) → NoneBelow went IsEnd threads front u n
-    → ((j : ℕ) → n ≤ j → j < i → ¬ MayGo threads front j) → i + 1 < 2 ^ 64
-    → Steps went IsEnd threads front u (record { thread = i; before = u }) w
-placed_so went IsEnd threads front u n i w may_go answered one below between fits = record {
+pub placed_so : {S : Type 0} (went : Answers S) (IsEnd : S → Type 0) (threads : Threads) (front : Front) (u : S) (i n : ℕ) (w : S) → MayGo threads front i
+    → went u i (placed front i) w → ((x : S) → went u i (placed front i) x → x ≡ w) → IsEnough went IsEnd threads front u i n
+    → Steps went IsEnd threads front u (record { thread = i; before = u; next = n }) w
+placed_so went IsEnd threads front u i n w may_go answered one enough = record {
   goes = record { may_go = may_go; answered = answered };
   one_state = one;
-  none_below = below_skip went IsEnd threads front u n i below between;
+  enough = enough;
   before = refl;
-  fits = fits;
 }
 
 pub none_yet : {S : Type 0} (went : Answers S) (IsEnd : S → Type 0) (threads : Threads) (front : Front) (u : S) → NoneBelow went IsEnd threads front u 0
@@ -150,9 +146,8 @@ pub record BackAt {S : Type 0} (went : Answers S) (IsEnd : S → Type 0) (thread
     (path : List (Placed S)) : Type 0 where
   pub below : p.thread < length front
   pub some : 1 ≤ placed front p.thread
-  pub fits : p.thread + 1 < 2 ^ 64
   pub trail : Trail went IsEnd threads (start threads) first path (less front p.thread) p.before
-  pub none_below : NoneBelow went IsEnd threads (less front p.thread) p.before (p.thread + 1)
+  pub none_below : NoneBelow went IsEnd threads (less front p.thread) p.before p.next
   pub long : length (less front p.thread) ≡ length threads
 
 pub back_at : {S : Type 0} (went : Answers S) (IsEnd : S → Type 0) (threads : Threads) (first : S) (front : Front) (u : S) (n : ℕ) (path : List (Placed S))
@@ -172,9 +167,8 @@ back_at {S = S} went IsEnd threads first front u n path p t long below no_more n
     record {
       below = subst (λ (k : ℕ). p.thread < k) (sym long) lt;
       some = omega (arith, one_more);
-      fits = b.steps.fits;
       trail = subst (λ (f : Front). Trail went IsEnd threads (start threads) first path f p.before) (sym again) b.trail;
-      none_below = subst (λ (f : Front). NoneBelow went IsEnd threads f p.before (p.thread + 1)) (sym again)
+      none_below = subst (λ (f : Front). NoneBelow went IsEnd threads f p.before p.next) (sym again)
           (below_more went IsEnd threads b.old_front p.before p u b.steps none);
       long = ap length again ∙ long_at;
     }
@@ -199,7 +193,7 @@ go_all threads front i n span is le all = record {
 true_not : false ≡ true → ⊥
 true_not e = cc e
 
-some_begin : (a b : Span) → Some a ≡ Some b → a.begin ≡ b.begin
+pub some_begin : (a b : Span) → Some a ≡ Some b → a.begin ≡ b.begin
 some_begin a b e = let same : a ≡ b = cc e in ap (λ (s : Span). s.begin) same
 
 later : (threads : Threads) (front : Front) (n j time : ℕ) (o : Span) → j ≡ n → next_of threads front j ≡ Some o → o.end < time

@@ -18,9 +18,13 @@ start threads = replicate (length threads) 0
 abbrev pub placed : Front → ℕ → ℕ
 placed front i = slice_index front i
 
+-- a call of a thread, of which the first is 0
+abbrev pub call_of : Threads → ℕ → ℕ → Option Span
+call_of threads i k = slice_get (slice_index_or threads i []) k
+
 -- the first call of a thread that isn't placed
 abbrev pub next_of : Threads → Front → ℕ → Option Span
-next_of threads front i = slice_get (slice_index_or threads i []) (placed front i)
+next_of threads front i = call_of threads i (placed front i)
 
 -- one more call of a thread is placed
 abbrev pub more : Front → ℕ → Front

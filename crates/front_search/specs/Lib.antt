@@ -1,3 +1,4 @@
+pub mod Commuting
 pub mod Fits
 pub mod Fronts
 pub mod Moves

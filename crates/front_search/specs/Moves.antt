@@ -1,5 +1,5 @@
 -- How the program moves a search.
-use Rattle.std.specs.Prelude.{◌≡◌, ◌⊎◌, ℕ, ◌+◌, ◌-◌, List, [], ◌∷◌, ◌++◌, map, slice_set}
+use Rattle.std.specs.Prelude.{◌≡◌, ◌⊎◌, ℕ, ◌-◌, List, [], ◌∷◌, ◌++◌, map, slice_set}
 use Rattle.front_search.specs.Fronts.{Threads, Front, more, placed, start}
 use Rattle.front_search.specs.declared.trail.Placed.{Placed}
 use Rattle.front_search.specs.declared.trail.Search.{Search}
@@ -20,20 +20,20 @@ pub record IsNew {S : Type 0} (threads : Threads) (first : S) (s : Search S) : T
   pub next : s.next ≡ 0
   pub reached : s.reached.items ≡ []
 
--- a thread's next call is placed, and leaves this state
-pub record IsPlaced {S : Type 0} (thread : ℕ) (state : S) (s t : Search S) : Type 0 where
-  pub path : t.path.items ≡ s.path.items ++ record { thread = thread; before = s.state } ∷ []
+-- a thread's next call is placed, and leaves this state; the search goes on at this thread where it is taken back
+pub record IsPlaced {S : Type 0} (thread next : ℕ) (state : S) (s t : Search S) : Type 0 where
+  pub path : t.path.items ≡ s.path.items ++ record { thread = thread; before = s.state; next = next } ∷ []
   pub front : t.front.items ≡ more s.front.items thread
   pub state_is : t.state ≡ state
-  pub next : t.next ≡ 0
+  pub starts : t.next ≡ 0
   pub reached : t.reached.items ≡ s.reached.items
 
--- a thread is left out
-pub record IsSkipped {S : Type 0} (thread : ℕ) (s t : Search S) : Type 0 where
+-- the threads below this one are left out
+pub record IsSkipped {S : Type 0} (next : ℕ) (s t : Search S) : Type 0 where
   pub path : t.path.items ≡ s.path.items
   pub front : t.front.items ≡ s.front.items
   pub state : t.state ≡ s.state
-  pub next : t.next ≡ thread + 1
+  pub goes_on : t.next ≡ next
   pub reached : t.reached.items ≡ s.reached.items
 
 -- what is reached may be this order of calls now
@@ -62,5 +62,5 @@ pub record IsReturned {S : Type 0} (p : Placed S) (s t : Search S) : Type 0 wher
   pub path : t.path.items ≡ s.path.items
   pub front : t.front.items ≡ less s.front.items p.thread
   pub state : t.state ≡ p.before
-  pub next : t.next ≡ p.thread + 1
+  pub next : t.next ≡ p.next
   pub reached : t.reached.items ≡ s.reached.items

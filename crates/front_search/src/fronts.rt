@@ -7,6 +7,14 @@ ghost use Rattle.front_search.specs.Fronts as spec;
 use crate::span::Span;
 use its_types::Listed;
 
+/// A call of a thread, both counted from 0.
+pub fn call_of(threads: &[Listed<Span>], thread: usize, call: usize) -> Option<Span>
+    ensures { result ≡ spec.call_of threads.now thread call }
+{
+    let calls = threads.get(thread)?;
+    calls.as_slice().get(call).copied()
+}
+
 /// The first call of a thread that isn't placed.
 pub fn next_of(threads: &[Listed<Span>], front: &[usize], thread: usize) -> Option<Span>
     requires { length front.now ≡ length threads.now }

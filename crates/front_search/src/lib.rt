@@ -2,9 +2,11 @@
 //! and returned, that fits what they were answered.
 #![tactic(auto)]
 
+mod at_once;
 mod fronts;
 mod outcome;
 mod recorded;
+mod run_on;
 mod search;
 mod span;
 mod trail;

@@ -5,7 +5,8 @@
 pub enum Outcome {
     /// The calls fit in this order of their threads.
     Fits(Vec<usize>),
-    /// They fit in none. This is the longest order in which some of them went.
+    /// They fit in none. Some of them went in this order, the longest from which the search went
+    /// back.
     Nowhere(Vec<usize>),
     /// So many calls were tried, and no more may be.
     Undecided(u64),

@@ -3,8 +3,9 @@ use std::alloc::{AllocError, Global};
 
 /// Calls of some threads with what they were answered, in a machine that has states.
 pub trait Recorded<S> {
-    ghost use Rattle.std.specs.Prelude.{◌≡◌, ℕ, IfOk, MatchOption};
+    ghost use Rattle.std.specs.Prelude.{◌≡◌, ℕ, true, IfOk, MatchOption};
     ghost use Rattle.std.specs.Bool.{Decides};
+    ghost use Rattle.front_search.specs.Commuting.{Commutes};
 
     /// A call, by its thread and its number there, both counted from 0, is answered in the first
     /// state as it was recorded, and leaves the second.
@@ -30,4 +31,9 @@ pub trait Recorded<S> {
     /// Whether the last call may leave this state.
     fn ends(&self, alloc: Global, state: &S) -> Result<bool, AllocError>
         ensures { IfOk result (λ b. Decides b (IsEnd self.now state.now)) };
+
+    /// Whether a call is known to commute with a call of another thread. `false` says nothing.
+    fn commutes(&self, thread: usize, call: usize, other_thread: usize, other_call: usize) -> bool
+        ensures { result ≡ true → Commutes (Goes self.now) (IsEnd self.now)
+            thread call other_thread other_call };
 }

@@ -1,23 +1,28 @@
 //! A search in depth over fronts.
 
-ghost use Rattle.std.specs.Prelude.{◌≡◌, ◌<◌, ◌≤◌, ◌+◌, ◌^◌, ℕ, true, false, [], ◌∷◌, IfOk, OnOk};
+ghost use Rattle.std.specs.Prelude.{◌≡◌, ◌<◌, ◌≤◌, ◌+◌, ◌*◌, ◌^◌, ℕ, true, false, []};
+ghost use Rattle.std.specs.Prelude.{◌∷◌, IfNone, IfOk, IfSome, OnOk};
 ghost use Rattle.std.specs.Prelude.{length};
 ghost use Rattle.std.specs.Bool.{Decides};
 ghost use Rattle.front_search.specs.Fits.{Fits};
 ghost use Rattle.front_search.specs.Fronts.{MayGo, placed, start};
 ghost use Rattle.front_search.specs.Outcomes.{IfFits, IfNowhere, IfUndecided};
-ghost use Rattle.front_search.specs.Trails.{IsAt, IsReached, IsSomewhere, NoneFits};
+ghost use Rattle.front_search.specs.Trails.{IsAt, IsEnough, IsReached, IsSomewhere, NoneBelow};
+ghost use Rattle.front_search.specs.Trails.{NoneFits};
 
+use crate::at_once::first_at_once;
 use crate::fronts::{is_whole, least_from};
 use crate::outcome::Outcome;
 use crate::recorded::Recorded;
+use crate::run_on::run_on;
 use crate::span::Span;
 use crate::trail::Search;
 use its_types::Listed;
 use std::alloc::{AllocError, Global};
 
 /// Looks for an order of the calls of some threads that fits what they were answered, from a first
-/// state on. It tries at most so many calls.
+/// state on. It tries at most so many calls, and of those that may come next one alone where that
+/// commutes with all that may stand before it.
 pub fn find_order<S: Drop, C: Recorded<S>>(
     alloc: Global,
     calls: &C,
@@ -36,14 +41,13 @@ pub fn find_order<S: Drop, C: Recorded<S>>(
     let mut search = Search::new(alloc, first, threads)?;
     let mut left = bound;
     'tries: loop {
-        let found = least_from(threads, search.front(), search.next());
-        match found {
-            Some(thread) => {
+        match choose(calls, threads, &search) {
+            Some(choice) => {
                 if left == 0 {
                     return Ok(Outcome::Undecided(bound));
                 }
                 left -= 1;
-                try_call(alloc, calls, threads, &mut search, thread)?;
+                try_call(alloc, calls, threads, &mut search, choice)?;
             }
             None => {
                 let ends = is_end(alloc, calls, threads, &search)?;
@@ -51,13 +55,53 @@ pub fn find_order<S: Drop, C: Recorded<S>>(
                     let order = search.order(alloc)?;
                     return Ok(Outcome::Fits(order));
                 }
-                let back = go_back(alloc, calls, threads, &mut search)?;
-                if !back {
+                let more = go_on(alloc, calls, threads, &mut search, &mut left)?;
+                if !more {
                     return Ok(Outcome::Nowhere(search.into_reached()));
                 }
             }
         }
     }
+}
+
+/// What to try next.
+#[derive(Clone, Copy)]
+struct Choice {
+    /// Its next call is tried.
+    thread: usize,
+    /// Where no order fits in which that comes next, none fits in which a lower thread than this
+    /// one does.
+    next: usize,
+}
+
+/// What to try next: at a new front a call that goes at once, and nothing else there; where there
+/// is none, or the search came back to the front, the next thread whose call may be placed.
+fn choose<S: Drop, C: Recorded<S>>(
+    calls: &C,
+    threads: &[Listed<Span>],
+    search: &Search<S>,
+) -> Option<Choice>
+    requires long { length search.now.front.items ≡ length threads.now }
+    requires none_below { NoneBelow (C.Goes calls.now) (C.IsEnd calls.now) threads.now
+        search.now.front.items search.now.state search.now.next }
+    ensures may_go { IfSome result (λ c. MayGo threads.now search.now.front.items c.thread) }
+    ensures enough { IfSome result (λ c. IsEnough (C.Goes calls.now) (C.IsEnd calls.now)
+        threads.now search.now.front.items search.now.state c.thread c.next) }
+    ensures below { IfSome result (λ c. c.thread < length threads.now) }
+    ensures counted { IfSome result (λ c.
+        placed search.now.front.items c.thread + 1 < 2 ^ 64) }
+    ensures none { IfNone result ((j : ℕ) → search.now.next ≤ j
+        → ¬ MayGo threads.now search.now.front.items j) }
+{
+    if search.next() == 0 {
+        if let Some(thread) = first_at_once(calls, threads, search) {
+            let next = threads.len();
+            return Some(Choice { thread, next });
+        }
+    }
+    let thread = least_from(threads, search.front(), search.next())?;
+    let next = thread + 1;
+    Some(Choice { thread, next })
 }
 
 /// Whether all calls are placed, and the last of them may leave this state.
@@ -85,33 +129,69 @@ fn try_call<S: Drop, C: Recorded<S>>(
     calls: &C,
     threads: &[Listed<Span>],
     search: &mut Search<S>,
-    thread: usize,
+    choice: Choice,
 ) -> Result<(), AllocError>
     requires long { length search.old.front.items ≡ length threads.now }
-    requires may_go { MayGo threads.now search.old.front.items thread }
-    requires least { (j : ℕ) → search.old.next ≤ j → j < thread
-        → ¬ MayGo threads.now search.old.front.items j }
-    requires below { thread < length threads.now }
-    requires fits { thread + 1 < 2 ^ 64 }
-    requires counted { placed search.old.front.items thread + 1 < 2 ^ 64 }
+    requires may_go { MayGo threads.now search.old.front.items choice.thread }
+    requires enough { IsEnough (C.Goes calls.now) (C.IsEnd calls.now) threads.now
+        search.old.front.items search.old.state choice.thread choice.next }
+    requires below { choice.thread < length threads.now }
+    requires counted { placed search.old.front.items choice.thread + 1 < 2 ^ 64 }
     ensures at { OnOk result ((first : S) →
         IsAt (C.Goes calls.now) (C.IsEnd calls.now) threads.now first search.old →
         IsAt (C.Goes calls.now) (C.IsEnd calls.now) threads.now first search.new) }
     ensures path { OnOk result
         (length search.new.path.items ≤ length search.old.path.items + 1) }
 {
+    let Choice { thread, next } = choice;
     let call = search.placed(thread);
     let tried = calls.after(alloc, search.state(), thread, call)?;
     match tried {
         Some(state) => {
-            search.place(thread, state)?;
+            search.place(thread, next, state)?;
             Ok(())
         }
         None => {
-            search.skip(thread);
+            search.skip(next);
             Ok(())
         }
     }
+}
+
+/// Goes on where no order fits: runs on if that may come to the longest order, or else goes back.
+/// Answers whether the search isn't over.
+fn go_on<S: Drop, C: Recorded<S>>(
+    alloc: Global,
+    calls: &C,
+    threads: &[Listed<Span>],
+    search: &mut Search<S>,
+    left: &mut u64,
+) -> Result<bool, AllocError>
+    requires at { IsSomewhere (C.Goes calls.now) (C.IsEnd calls.now) threads.now search.old }
+    requires no_more { (j : ℕ) → search.old.next ≤ j
+        → ¬ MayGo threads.now search.old.front.items j }
+    requires no_end { ¬ Fits (C.Goes calls.now) (C.IsEnd calls.now) threads.now
+        search.old.front.items search.old.state [] }
+    ensures on { IfOk result (λ b. b ≡ true → (first : S) →
+        IsAt (C.Goes calls.now) (C.IsEnd calls.now) threads.now first search.old →
+        IsAt (C.Goes calls.now) (C.IsEnd calls.now) threads.now first search.new) }
+    ensures less { IfOk result (λ b. b ≡ true →
+        2 * left.new + length search.new.path.items
+        < 2 * left.old + length search.old.path.items) }
+    ensures none { IfOk result (λ b. b ≡ false → (first : S) →
+        IsAt (C.Goes calls.now) (C.IsEnd calls.now) threads.now first search.old →
+        NoneFits (C.Goes calls.now) (C.IsEnd calls.now) threads.now first) }
+    ensures reached { IfOk result (λ b. b ≡ false → (first : S) →
+        IsAt (C.Goes calls.now) (C.IsEnd calls.now) threads.now first search.old →
+        IsReached (C.Goes calls.now) threads.now first search.new.reached.items) }
+{
+    if search.is_longest() {
+        let further = run_on(alloc, calls, threads, search, left)?;
+        if further {
+            return Ok(true);
+        }
+    }
+    go_back(alloc, calls, threads, search)
 }
 
 /// Takes the last call back, after which no order fits, and answers whether there was one.

@@ -1,6 +1,6 @@
 //! How far a search is: the calls that are placed, and the states before them.
 ghost use Rattle.std.specs.Prelude.{◌≡◌, ◌<◌, ◌≤◌, ◌+◌, ◌^◌, IfOk, OnOk, MatchOption};
-ghost use Rattle.std.specs.Prelude.{length, map, replicate};
+ghost use Rattle.std.specs.Prelude.{◌||◌, ◌==◌, length, map, nat_lt, replicate};
 ghost use Rattle.front_search.specs.Fronts as spec;
 ghost use Rattle.front_search.specs.Moves.{IsEmpty, IsKept, IsNew, IsPlaced, IsReturned, IsSkipped};
 ghost use Rattle.front_search.specs.Moves.{IsTaken};
@@ -17,6 +17,8 @@ pub struct Placed<S> {
     thread: usize,
     /// The state that it was made in.
     before: S,
+    /// Where no order fits in which it comes next, none fits in which a lower thread does.
+    next: usize,
 }
 
 /// How far a search is.
@@ -96,33 +98,46 @@ impl<S: Drop> Search<S> {
         Ok(order)
     }
 
-    /// Places the next call of a thread, which leaves this state.
-    pub fn place(&mut self, thread: usize, state: S) -> Result<(), AllocError>
+    /// Places the next call of a thread, which leaves this state. Where it is taken back, the
+    /// search goes on at the thread `next`.
+    pub fn place(&mut self, thread: usize, next: usize, state: S) -> Result<(), AllocError>
         requires below { thread < length self.old.front.items }
         requires fits { spec.placed self.old.front.items thread + 1 < 2 ^ 64 }
-        ensures { OnOk result (IsPlaced thread state self.old self.new) }
+        ensures { OnOk result (IsPlaced thread next state self.old self.new) }
     {
         let count = self.front[thread] + 1;
         let before = replace(&mut self.state, state);
-        self.path.push(Placed { thread, before })?;
+        self.path.push(Placed {
+            thread,
+            before,
+            next,
+        })?;
         self.front[thread] = count;
         self.next = 0;
         Ok(())
     }
 
-    /// Leaves a thread out.
-    pub fn skip(&mut self, thread: usize)
-        requires { thread + 1 < 2 ^ 64 }
-        ensures { IsSkipped thread self.old self.new }
+    /// Leaves the threads below this one out.
+    pub fn skip(&mut self, next: usize)
+        ensures { IsSkipped next self.old self.new }
     {
-        self.next = thread + 1;
+        self.next = next;
+    }
+
+    /// Whether more calls are placed than the longest order has from which the search went back, or
+    /// that has none.
+    pub fn is_longest(&self) -> bool
+        ensures { result ≡ (nat_lt (length self.now.reached.items) (length self.now.path.items)
+            || length self.now.reached.items == 0) }
+    {
+        self.path.len() > self.reached.len() || self.reached.is_empty()
     }
 
     /// Keeps the order of the calls that are placed, if it is the longest.
     pub fn keep_longest(&mut self, alloc: Global) -> Result<(), AllocError>
         ensures { OnOk result (IsKept self.old self.new) }
     {
-        if self.path.len() > self.reached.len() {
+        if self.is_longest() {
             self.reached = self.order(alloc)?;
         }
         Ok(())
@@ -140,13 +155,16 @@ impl<S: Drop> Search<S> {
     pub fn return_to(&mut self, last: Placed<S>)
         requires below { last.thread < length self.old.front.items }
         requires some { 1 ≤ spec.placed self.old.front.items last.thread }
-        requires fits { last.thread + 1 < 2 ^ 64 }
         ensures { IsReturned last self.old self.new }
     {
-        let Placed { thread, before } = last;
+        let Placed {
+            thread,
+            before,
+            next,
+        } = last;
         let count = self.front[thread] - 1;
         self.front[thread] = count;
-        self.next = thread + 1;
+        self.next = next;
         self.state = before;
     }
 }

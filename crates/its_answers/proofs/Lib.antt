@@ -11,3 +11,4 @@ pub mod Reports
 pub mod Checking
 pub mod Explained
 pub mod Causes
+pub mod Agreed

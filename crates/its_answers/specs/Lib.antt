@@ -8,3 +8,4 @@ pub mod Its
 pub mod Answered
 pub mod Opened
 pub mod Compared
+pub mod Agreed

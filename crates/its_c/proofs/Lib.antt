@@ -1,3 +1,4 @@
 pub mod HandleBox
 pub mod PieceSteps
 pub mod WholeReads
+pub mod LentWindows

@@ -18,3 +18,7 @@ AreConcerned concerned u = (vcpu : ℕ) → vcpu < most_vcpus → word_bit conce
 -- what a step may answer, of a handle with a machine
 abbrev pub IsStepCode : ℕ → Type 0
 IsStepCode code = (code ≡ codes.done) ⊎ ((code ≡ codes.no_memory) ⊎ (code ≡ codes.full))
+
+-- where the bytes that it reads are lent
+abbrev pub IsLentStepCode : ℕ → Type 0
+IsLentStepCode code = (code ≡ codes.range) ⊎ IsStepCode code

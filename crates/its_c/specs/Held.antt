@@ -1,8 +1,9 @@
 -- What a call says of the machine of a handle.
-use Rattle.std.specs.Prelude.{◌≡◌, ℕ, Option, Some}
+use Rattle.std.specs.Prelude.{◌≡◌, Option, Some}
 use Rattle.std.specs.Option.{option_map}
 use Rattle.its_plain.specs.Plain.{Plain}
 use Rattle.its_plain.specs.declared.desc.Desc.{Desc}
+use Rattle.its_numbers.specs.declared.limits.GuestLimits.{GuestLimits}
 use Rattle.its_c.specs.Keeping.{Held}
 use Rattle.its_c.specs.declared.handle.Handle.{Handle}
 
@@ -14,6 +15,6 @@ InMachine before after P = (h k : Held) → before.machine ≡ Some h → after.
 abbrev pub InHeld : Handle → Handle → (Held → Held → Type 0) → Type 0
 InHeld before after P = (h k : Held) → before.machine ≡ Some h → after.machine ≡ Some k → P h k
 
--- the description and the limit of the machine that a handle has, if it has one
-abbrev pub beside : Handle → Option (Desc × ℕ)
-beside handle = option_map (λ h. (h.desc, h.limit)) handle.machine
+-- the description and the limits of the machine that a handle has, if it has one
+abbrev pub beside : Handle → Option (Desc × GuestLimits)
+beside handle = option_map (λ h. (h.desc, h.limits)) handle.machine

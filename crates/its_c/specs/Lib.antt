@@ -4,6 +4,7 @@ pub mod Held
 pub mod Insides
 pub mod Keeping
 pub mod Lending
+pub mod LentBytes
 pub mod Making
 pub mod Owning
 pub mod Pieces

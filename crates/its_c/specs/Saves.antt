@@ -23,6 +23,7 @@ pub record IsUnsaved (code : ℕ) (u w : Plain) (before after : SaveFaultOut) : 
   pub same : code ≢ codes.done → w ≡ u
   pub untold : code ≢ codes.fault → after ≡ before
   pub fault : code ≡ codes.fault → (f : SaveFault) × (savable u ≡ Err f) × (after ≡ save_fault_out f)
-  pub known : code ≤ codes.fault
+  pub known : code ≤ codes.full
   pub not_outside : code ≢ codes.outside
   pub not_range : code ≢ codes.range
+  pub not_handle : code ≢ codes.handle

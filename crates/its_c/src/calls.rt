@@ -12,6 +12,7 @@ ghost use Rattle.its_numbers.specs.Stored.{stored};
 ghost use Rattle.its_numbers.specs.Lists.{HasFirst, SameFrom};
 ghost use Rattle.its_numbers.specs.Codes as codes;
 ghost use Rattle.its_c.specs.Held.{InMachine, InHeld, beside};
+ghost use Rattle.its_c.specs.Keeping.{IsWriteCode};
 ghost use Rattle.its_numbers.specs.Events.{event_out};
 ghost use Rattle.its_numbers.specs.Replies as replies;
 ghost use Rattle.its_c.specs.Words.{has_word, word as text};
@@ -188,8 +189,8 @@ pub extern "C" fn its_dma(
     ensures kept { beside handle.new ≡ beside handle.old }
     ensures range { InMachine handle.old handle.new (λ u w.
         is_count bytes.now ≡ false → result ≡ codes.range) }
-    ensures codes { InMachine handle.old handle.new (λ u w. is_count bytes.now ≡ true
-        → (result ≡ codes.done) ⊎ (result ≡ codes.no_memory)) }
+    ensures codes { InHeld handle.old handle.new (λ h k. is_count bytes.now ≡ true
+        → IsWriteCode result h.limits) }
     ensures told { InHeld handle.old handle.new (λ h k. result ≡ codes.done
         → out.new ≡ replies.dma_out (route_of h.desc requester address bytes.now)
         (wrote_reply h requester address bytes.now)) }

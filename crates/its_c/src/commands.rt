@@ -1,5 +1,8 @@
 //! Commands: the translator takes the next of its queue (IHI 0069, section 5.3).
-ghost use Rattle.std.specs.Prelude.{◌≡◌, ◌≢◌, ◌≤◌, ◌<◌, ℕ, true, false};
+ghost use Rattle.std.specs.Prelude.{◌≡◌, ◌≢◌, ◌≤◌, ◌<◌, ℕ, true, false, length, map};
+ghost use Rattle.guest_windows.specs.Windows.{extent};
+ghost use Rattle.owned_machine.specs.Lent.{on, left_on};
+ghost use Rattle.its_c.specs.LentBytes.{stretches_fit, lent, lent_left};
 ghost use Rattle.its_plain.specs.Answer as plain;
 ghost use Rattle.owned_machine.specs.Whole.{step_adds};
 ghost use Rattle.its_types.specs.Bitmap.{word_bit};
@@ -7,15 +10,18 @@ ghost use Rattle.its_types.specs.Ranges.{most_vcpus};
 ghost use Rattle.owned_parts.specs.RedistSets.{is_in};
 ghost use Rattle.its_numbers.specs.Codes as codes;
 ghost use Rattle.its_c.specs.Keeping.{with_machine, is_full};
-ghost use Rattle.its_c.specs.Concerns.{UnconcernedStay, AreConcerned, IsStepCode};
+ghost use Rattle.its_c.specs.Concerns.{UnconcernedStay, AreConcerned, IsStepCode, IsLentStepCode};
 ghost use Rattle.its_numbers.specs.Replies as replies;
 
 use crate::kept::{Kept, StepError};
-use its_numbers::{DONE, FULL, NO_MEMORY, StepOut, step_out};
+use crate::lent_bytes::{lent_memory, stretches_fit};
+use crate::memory::memory_of;
+use guest_windows::Memory;
+use its_numbers::{DONE, FULL, NO_MEMORY, RANGE, StepOut, StretchOut, step_out};
 use its_types::{MOST_VCPUS, put_bit};
 use owned_parts::RedistSet;
 use std::alloc::Global;
-use step_views::concerned;
+use step_views::{concerned, concerned_on};
 
 /// The translator takes its next command.
 pub fn step(kept: &mut Kept, alloc: Global, out: &mut StepOut) -> u32
@@ -27,14 +33,77 @@ pub fn step(kept: &mut Kept, alloc: Global, out: &mut StepOut) -> u32
         → AreConcerned out.new.concerned kept.old.machine }
     ensures left { result ≡ codes.done
         → kept.new ≡ with_machine kept.old (plain.step_left kept.old.machine 0) }
-    ensures full { result ≡ codes.full → is_full kept.old.limit kept.old.machine ≡ true }
-    ensures where_full { is_full kept.old.limit kept.old.machine ≡ true → result ≡ codes.full }
+    ensures full { result ≡ codes.full → is_full kept.old.limits kept.old.machine ≡ true }
+    ensures where_full { is_full kept.old.limits kept.old.machine ≡ true → result ≡ codes.full }
     ensures rare { result ≡ codes.no_memory → step_adds kept.old.machine 0 ≡ true }
     ensures codes { IsStepCode result }
     ensures refused { result ≢ codes.done → (out.new ≡ out.old) × (kept.new ≡ kept.old) }
 {
     let concerned = words_of(concerned(kept.machine().parts(), 0));
     match kept.step(alloc) {
+        Ok(reply) => {
+            *out = step_out(reply, concerned);
+            DONE
+        }
+        Err(StepError::Full) => FULL,
+        Err(StepError::NoMemory) => NO_MEMORY,
+    }
+}
+
+/// The translator takes its next command on memory that has just the bytes of some stretches.
+pub fn step_with(
+    kept: &mut Kept,
+    alloc: Global,
+    list: &[StretchOut],
+    bytes: &[u8],
+    out: &mut StepOut,
+) -> u32
+    ensures range { stretches_fit list.now (length bytes.now) ≡ false → result ≡ codes.range }
+    ensures only_range { result ≡ codes.range → stretches_fit list.now (length bytes.now) ≡ false }
+    ensures told { result ≡ codes.done → out.new ≡ replies.step_out
+        (plain.step_reply (lent kept.old.machine list.now bytes.now) 0) out.new.concerned }
+    ensures unconcerned { result ≡ codes.done
+        → UnconcernedStay out.new.concerned kept.old.machine kept.new.machine }
+    ensures concerned { result ≡ codes.done
+        → AreConcerned out.new.concerned (lent kept.old.machine list.now bytes.now) }
+    ensures left { result ≡ codes.done → kept.new
+        ≡ with_machine kept.old (lent_left kept.old.machine list.now bytes.now) }
+    ensures full { result ≡ codes.full
+        → is_full kept.old.limits (lent kept.old.machine list.now bytes.now) ≡ true }
+    ensures past { result ≡ codes.done
+        → is_full kept.old.limits (lent kept.old.machine list.now bytes.now) ≡ false }
+    ensures codes { IsLentStepCode result }
+    ensures refused { result ≢ codes.done → (out.new ≡ out.old) × (kept.new ≡ kept.old) }
+{
+    if !stretches_fit(list, bytes.len()) {
+        return RANGE;
+    }
+    match lent_memory(alloc, memory_of(kept), list, bytes) {
+        Ok(memory) => step_on(kept, &memory, out),
+        Err(_) => NO_MEMORY,
+    }
+}
+
+// The same on memory with the machine's windows.
+fn step_on(kept: &mut Kept, memory: &Memory, out: &mut StepOut) -> u32
+    requires { map extent memory.now ≡ map extent kept.old.machine.memory }
+    ensures told { result ≡ codes.done → out.new ≡ replies.step_out
+        (plain.step_reply (on memory.now kept.old.machine) 0) out.new.concerned }
+    ensures unconcerned { result ≡ codes.done
+        → UnconcernedStay out.new.concerned kept.old.machine kept.new.machine }
+    ensures concerned { result ≡ codes.done
+        → AreConcerned out.new.concerned (on memory.now kept.old.machine) }
+    ensures left { result ≡ codes.done → kept.new
+        ≡ with_machine kept.old (left_on memory.now kept.old.machine 0) }
+    ensures full { result ≡ codes.full
+        → is_full kept.old.limits (on memory.now kept.old.machine) ≡ true }
+    ensures where_full { is_full kept.old.limits (on memory.now kept.old.machine) ≡ true
+        → result ≡ codes.full }
+    ensures codes { IsStepCode result }
+    ensures refused { result ≢ codes.done → (out.new ≡ out.old) × (kept.new ≡ kept.old) }
+{
+    let concerned = words_of(concerned_on(kept.machine().parts(), memory, 0));
+    match kept.step_on(memory) {
         Ok(reply) => {
             *out = step_out(reply, concerned);
             DONE

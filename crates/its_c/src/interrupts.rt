@@ -9,14 +9,14 @@ ghost use Rattle.its_plain.specs.Doorbells.{route_of};
 ghost use Rattle.owned_machine.specs.Whole.{may_want_memory};
 ghost use Rattle.step_views.specs.Destinations.{destination};
 ghost use Rattle.its_numbers.specs.Codes as codes;
-ghost use Rattle.its_c.specs.Keeping.{with_machine};
+ghost use Rattle.its_c.specs.Keeping.{with_machine, IsWriteCode};
 ghost use Rattle.its_numbers.specs.Events.{event_out};
 ghost use Rattle.its_numbers.specs.Replies as replies;
 
 use crate::kept::Kept;
 use crate::ranges::has_vcpu;
 use its_numbers::{
-    AckOut, DONE, DmaOut, EventOut, NO_MEMORY, RANGE, SignalOut, ack_out, dma_out, event_out,
+    AckOut, DONE, DmaOut, EventOut, FULL, NO_MEMORY, RANGE, SignalOut, ack_out, dma_out, event_out,
     signal_out,
 };
 use its_plain::{Bytes64, Call, Reply};
@@ -54,8 +54,7 @@ pub fn dma(
     out: &mut DmaOut,
 ) -> u32
     ensures range { is_count bytes.now ≡ false → result ≡ codes.range }
-    ensures codes { is_count bytes.now ≡ true
-        → (result ≡ codes.done) ⊎ (result ≡ codes.no_memory) }
+    ensures codes { is_count bytes.now ≡ true → IsWriteCode result kept.old.limits }
     ensures told { result ≡ codes.done → out.new ≡ replies.dma_out
         (route_of kept.old.desc requester address bytes.now)
         (wrote_reply kept.old requester address bytes.now) }
@@ -68,7 +67,11 @@ pub fn dma(
     if bytes.is_empty() || bytes.len() > 64 {
         return RANGE;
     }
-    match kept.dma(alloc, requester, Addr(address), Bytes64::new(bytes)) {
+    let bytes = Bytes64::new(bytes);
+    if !kept.has_room_for(requester, Addr(address), &bytes) {
+        return FULL;
+    }
+    match kept.dma(alloc, requester, Addr(address), bytes) {
         Ok((route, reply)) => {
             *out = dma_out(route, reply);
             DONE

@@ -1,23 +1,26 @@
-//! What a handle has: a machine, the description that it was made from, and how many events may be
-//! mapped.
+//! What a handle has: a machine, the description that it was made from, and how much may be mapped.
 ghost use Rattle.std.specs.Prelude.{◌≡◌};
+ghost use Rattle.owned_machine.specs.Lent.{on};
 ghost use Rattle.its_c.specs.Keeping as spec;
 
+use crate::room::{has_room, is_within, missing};
 use dma_routes::route;
-use guest_windows::Outside;
+use guest_windows::{Memory, Outside};
+use its_numbers::GuestLimits;
 use its_plain::{Bytes64, Call, Desc, Reply, Route, SaveError, StepReply};
 use its_types::Addr;
 use owned_machine::Machine;
 use std::alloc::{AllocError, Global};
 use std::marker::Model;
-use step_views::{adds_event, event_count};
+use step_views::{adds_device_on, adds_event_on, device_count, event_count};
+use table_save::written_tables;
 
 /// What a handle has.
 #[derive(Drop)]
 pub struct Kept {
     machine: Machine,
     desc: Desc,
-    limit: u64,
+    limits: GuestLimits,
 }
 
 impl Model for Kept {
@@ -39,7 +42,7 @@ impl Model for Kept {
 /// Why a step was not made. Nothing changed.
 #[derive(Clone, Copy)]
 pub enum StepError {
-    /// As many events are mapped as may be, or more, and the command would map another.
+    /// As many events or devices are mapped as may be, or more, and the command would map another.
     Full,
     /// The host's memory ran out.
     NoMemory,
@@ -47,29 +50,30 @@ pub enum StepError {
 
 impl Kept {
     ghost use Rattle.std.specs.Prelude.{◌≡◌, ◌<◌, ◌≤◌, ◌+◌, ◌^◌, true, IfOk, OnOk, OnErr, IfErr};
-    ghost use Rattle.std.specs.Prelude.{Ok, Err, is_ok, length, replicate};
+    ghost use Rattle.std.specs.Prelude.{Ok, Err, is_ok, length, map, replicate};
     ghost use Rattle.dma_routes.specs.Routes.{AreDevices};
-    ghost use Rattle.guest_windows.specs.Windows.{inside};
-    ghost use Rattle.its_c.specs.Keeping.{with_machine, no_limit, is_full, maps_none};
+    ghost use Rattle.guest_windows.specs.Windows.{inside, extent};
+    ghost use Rattle.its_c.specs.Keeping.{with_machine, no_limit, is_full, is_over, maps_none};
     ghost use Rattle.its_c.specs.declared.kept.StepError.TheVariants.{Full, NoMemory};
     ghost use Rattle.its_plain.specs.Answer as plain;
     ghost use Rattle.its_plain.specs.Doorbells.{route_of, dma_of};
+    ghost use Rattle.owned_machine.specs.Lent.{on, left_on};
     ghost use Rattle.owned_machine.specs.Migrations.{Migrates};
     ghost use Rattle.owned_machine.specs.Pieces.{written_to};
     ghost use Rattle.owned_machine.specs.Whole.{may_want_memory, step_adds};
 
-    /// A machine, and the description that it was made from but for its fills. There is no limit.
-    pub fn new(machine: Machine, desc: Desc) -> Kept
+    /// A machine, the description that it was made from but for its fills, and its limits.
+    pub fn new(machine: Machine, desc: Desc, limits: GuestLimits) -> Kept
         requires translators { length desc.translators ≤ 2 }
         requires devices { AreDevices desc.requesters }
         ensures machine { result.machine ≡ machine }
         ensures desc { result.desc ≡ desc }
-        ensures limit { result.limit ≡ no_limit }
+        ensures limits { result.limits ≡ limits }
     {
         Kept {
             machine,
             desc,
-            limit: u64::MAX,
+            limits,
         }
     }
 
@@ -80,13 +84,79 @@ impl Kept {
         &self.machine
     }
 
-    /// How many events may be mapped from now on; at 2^64 - 1 there is no limit.
-    pub fn set_limit(&mut self, events: u64)
+    /// How much may be mapped.
+    pub fn limits(&self) -> GuestLimits
+        ensures { result ≡ self.now.limits }
+    {
+        self.limits
+    }
+
+    /// How much may be mapped from now on.
+    pub fn set_limits(&mut self, limits: GuestLimits)
         ensures machine { self.new.machine ≡ self.old.machine }
         ensures desc { self.new.desc ≡ self.old.desc }
-        ensures limit { self.new.limit ≡ events }
+        ensures limits { self.new.limits ≡ limits }
     {
-        self.limit = events;
+        self.limits = limits;
+    }
+
+    /// Whether more is mapped than may be.
+    #[tactic(auto, unfolding(crate::specs::Keeping::is_over))]
+    pub fn is_over(&self) -> bool
+        ensures { result ≡ is_over self.now.limits self.now.machine }
+    {
+        is_past(self.limits.events, event_count(self.machine.parts(), 0))
+            || is_past(
+                self.limits.devices,
+                u64::from(device_count(self.machine.parts(), 0)),
+            )
+    }
+
+    /// Whether as many bytes of guest memory are held as may be, or fewer.
+    pub fn is_within(&self) -> bool
+        ensures { self.now.limits.memory ≡ no_limit → result ≡ true }
+    {
+        is_within(&self.machine.parts().memory, self.limits.memory)
+    }
+
+    /// Whether the pages of some bytes may be held besides.
+    pub fn has_room(&self, address: u64, length: u64) -> bool
+        ensures { self.now.limits.memory ≡ no_limit → result ≡ true }
+    {
+        let memory = &self.machine.parts().memory;
+        let limit = self.limits.memory;
+        limit == u64::MAX || has_room(memory, limit, missing(memory, address, length))
+    }
+
+    /// Whether a requester's write at an address is none of guest memory, or its pages may be held
+    /// besides.
+    pub fn has_room_for(&self, req: u32, addr: Addr, bytes: &Bytes64) -> bool
+        ensures { self.now.limits.memory ≡ no_limit → result ≡ true }
+    {
+        let length = bytes.as_slice().len() as u64;
+        match route(&self.desc, req, addr, bytes) {
+            Route::Poke => {
+                !self.machine.parts().memory.inside(addr, length) || self.has_room(addr.0, length)
+            }
+            Route::Signal { .. } | Route::NoRequester | Route::Frame => true,
+        }
+    }
+
+    /// Whether the pages of the tables that a save writes may be held besides.
+    pub fn has_room_for_tables(&self, alloc: Global) -> Result<bool, AllocError>
+        ensures { self.now.limits.memory ≡ no_limit → result ≡ Ok true }
+    {
+        let limit = self.limits.memory;
+        if limit == u64::MAX {
+            return Ok(true);
+        }
+        let parts = self.machine.parts();
+        let tables = written_tables(alloc, &parts.in_place())?;
+        let mut pages: u64 = 0;
+        for table in &tables {
+            pages = pages.saturating_add(missing(&parts.memory, table.0.0, table.1));
+        }
+        Ok(has_room(&parts.memory, limit, pages))
     }
 
     /// Answers a call that is no step.
@@ -136,16 +206,41 @@ impl Kept {
         ensures left { OnOk result (self.new
             ≡ with_machine self.old (plain.step_left self.old.machine 0)) }
         ensures err { OnErr result (self.new ≡ self.old) }
-        ensures full { result ≡ Err Full → is_full self.old.limit self.old.machine ≡ true }
-        ensures where_full { is_full self.old.limit self.old.machine ≡ true → result ≡ Err Full }
+        ensures full { result ≡ Err Full → is_full self.old.limits self.old.machine ≡ true }
+        ensures where_full { is_full self.old.limits self.old.machine ≡ true → result ≡ Err Full }
         ensures no_memory { result ≡ Err NoMemory → step_adds self.old.machine 0 ≡ true }
     {
-        if is_full(&self.machine, self.limit) {
+        if is_full(&self.machine, &self.limits) {
             return Err(StepError::Full);
         }
         match self.machine.answer(alloc, &Call::Step { its: 0 }) {
             Ok(Reply::Step(reply)) => Ok(reply),
             Ok(_) => unreachable!(),
+            Err(_) => Err(StepError::NoMemory),
+        }
+    }
+
+    /// The translator takes its next command on other memory with the same windows: guest memory is
+    /// neither read nor changed.
+    pub fn step_on(&mut self, memory: &Memory) -> Result<StepReply, StepError>
+        requires { map extent memory.now ≡ map extent self.old.machine.memory }
+        ensures reply { IfOk result (λ r. r
+            ≡ plain.step_reply (on memory.now self.old.machine) 0) }
+        ensures left { OnOk result (self.new
+            ≡ with_machine self.old (left_on memory.now self.old.machine 0)) }
+        ensures err { OnErr result (self.new ≡ self.old) }
+        ensures full { result ≡ Err Full
+            → is_full self.old.limits (on memory.now self.old.machine) ≡ true }
+        ensures where_full { is_full self.old.limits (on memory.now self.old.machine) ≡ true
+            → result ≡ Err Full }
+        ensures no_memory { result ≡ Err NoMemory
+            → step_adds (on memory.now self.old.machine) 0 ≡ true }
+    {
+        if is_full_on(&self.machine, memory, &self.limits) {
+            return Err(StepError::Full);
+        }
+        match self.machine.step_on(memory, 0) {
+            Ok(reply) => Ok(reply),
             Err(_) => Err(StepError::NoMemory),
         }
     }
@@ -180,17 +275,38 @@ impl Kept {
     pub fn migrate(&mut self, alloc: Global) -> Result<(), SaveError>
         ensures machine { Migrates result self.old.machine self.new.machine }
         ensures desc { self.new.desc ≡ self.old.desc }
-        ensures limit { self.new.limit ≡ self.old.limit }
+        ensures limits { self.new.limits ≡ self.old.limits }
     {
         self.machine.migrate(alloc)
     }
 }
 
-// Whether the next step would map another event, where as many are mapped as may be. Only at the
-// limit is the command looked at.
-#[tactic(auto, unfolding(crate::specs::Keeping::is_full))]
-fn is_full(machine: &Machine, limit: u64) -> bool
-    ensures { result ≡ spec.is_full limit machine.now }
+// Whether the next step would map another event or device, where as many are mapped as may be.
+fn is_full(machine: &Machine, limits: &GuestLimits) -> bool
+    ensures { result ≡ spec.is_full limits.now machine.now }
 {
-    limit != u64::MAX && event_count(machine.parts(), 0) >= limit && adds_event(machine.parts(), 0)
+    is_full_on(machine, &machine.parts().memory, limits)
+}
+
+// So of a step on other memory. Only at a limit is the command looked at.
+#[tactic(auto, unfolding(crate::specs::Keeping::is_full))]
+fn is_full_on(machine: &Machine, memory: &Memory, limits: &GuestLimits) -> bool
+    ensures { result ≡ spec.is_full limits.now (on memory.now machine.now) }
+{
+    let parts = machine.parts();
+    is_at(limits.events, event_count(parts, 0)) && adds_event_on(parts, memory, 0)
+        || is_at(limits.devices, u64::from(device_count(parts, 0)))
+            && adds_device_on(parts, memory, 0)
+}
+
+fn is_at(limit: u64, count: u64) -> bool
+    ensures { result ≡ spec.is_at limit count }
+{
+    limit != u64::MAX && count >= limit
+}
+
+fn is_past(limit: u64, count: u64) -> bool
+    ensures { result ≡ spec.is_past limit count }
+{
+    limit != u64::MAX && count > limit
 }

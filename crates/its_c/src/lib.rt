@@ -11,6 +11,9 @@ mod handle;
 mod interrupts;
 mod kept;
 mod lent;
+mod lent_bytes;
+#[cfg(test)]
+mod limit_tests;
 mod list_calls;
 #[cfg(test)]
 mod list_tests;
@@ -24,6 +27,7 @@ mod pending;
 mod pieces;
 mod ranges;
 mod registers;
+mod room;
 mod saves;
 mod step_calls;
 mod stretches;

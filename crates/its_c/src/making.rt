@@ -1,18 +1,22 @@
 //! A machine's making and end.
-ghost use Rattle.std.specs.Prelude.{◌≡◌, ◌≢◌, false, Err, None, IfOk, IfErr, is_none, length};
-ghost use Rattle.its_plain.specs.Described.{IsMadeFrom};
+ghost use Rattle.std.specs.Prelude.{◌≡◌, ◌≢◌, ◌⊎◌, true, false, Err, Some, None, IfOk, IfErr, is_none};
+ghost use Rattle.std.specs.Prelude.{length};
+ghost use Rattle.its_plain.specs.Described.{IsFirstState, IsMadeFrom};
 ghost use Rattle.its_plain.specs.Machine.{IsDescription};
 ghost use Rattle.its_numbers.specs.Codes as codes;
 ghost use Rattle.its_numbers.specs.Descriptions.{is_in_range as in_range, description_of};
-ghost use Rattle.its_c.specs.Making.{IsMade};
+ghost use Rattle.its_numbers.specs.Descriptions.{guest_limits_of};
+ghost use Rattle.its_c.specs.Keeping.{is_over, kept_of};
+ghost use Rattle.its_c.specs.Making.{IsMade, IsTooMuch, IsTooMuchIn};
 ghost use Rattle.its_numbers.specs.Unmade.{IsUnmade};
 
 use crate::handle::Handle;
 use crate::kept::Kept;
 use dma_routes::requesters_are_devices;
 use its_numbers::{
-    DONE, DescriptionIn, FAULT, FillIn, HANDLE, MakeFaultOut, NO_MEMORY, RANGE, RedistributorIn,
-    RequestersIn, WindowIn, description, is_in_range, make_fault_out,
+    DONE, DescriptionIn, FAULT, FULL, FillIn, GuestLimits, HANDLE, MakeFaultOut, NO_MEMORY, RANGE,
+    RedistributorIn, RequestersIn, WindowIn, description, guest_limits, is_in_range,
+    make_fault_out,
 };
 use its_plain::{Desc, MakeError};
 use its_types::Listed;
@@ -20,8 +24,8 @@ use owned_machine::Machine;
 use std::alloc::Global;
 use std::mem::replace;
 
-/// A machine as numbers describe it, restored from guest memory where they say so. The handle has
-/// none before.
+/// A machine as numbers describe it, restored from guest memory where they say so, if it maps no
+/// more than they say. The handle has none before.
 #[unsafe(no_mangle)]
 pub extern "C" fn its_new(
     handle: &mut Handle,
@@ -46,9 +50,13 @@ pub extern "C" fn its_new(
         (length bytes.now) ≡ false }
     ensures done { result ≡ codes.done
         → IsMade (description_of numbers.now windows.now pending.now redistributors.now
-        requesters.now fills.now bytes.now) handle.new.machine }
+        requesters.now fills.now bytes.now) (guest_limits_of numbers.now) handle.new.machine }
     ensures same { result ≢ codes.done → handle.new ≡ handle.old }
-    ensures unmade { IsUnmade result
+    ensures full { result ≡ codes.full
+        → IsTooMuch (description_of numbers.now windows.now pending.now redistributors.now
+        requesters.now fills.now bytes.now) (guest_limits_of numbers.now) }
+    ensures untold { result ≡ codes.full → fault.new ≡ fault.old }
+    ensures unmade { result ≢ codes.full → IsUnmade result
         (description_of numbers.now windows.now pending.now redistributors.now requesters.now
         fills.now bytes.now) fault.old fault.new }
 {
@@ -76,11 +84,8 @@ pub extern "C" fn its_new(
     ) else {
         return NO_MEMORY;
     };
-    match made(alloc, desc) {
-        Ok(machine) => {
-            *handle = machine;
-            DONE
-        }
+    match made(alloc, desc, guest_limits(numbers)) {
+        Ok(kept) => put(handle, kept),
         Err(MakeError::NoMemory) => NO_MEMORY,
         Err(MakeError::Fault(found)) => {
             *fault = make_fault_out(found);
@@ -89,16 +94,34 @@ pub extern "C" fn its_new(
     }
 }
 
-// The handle of a machine on the heap.
-fn made(alloc: Global, mut desc: Desc) -> Result<Handle, MakeError>
+// A machine on the heap, which may map more than may be.
+fn made(alloc: Global, mut desc: Desc, limits: GuestLimits) -> Result<Box<Kept>, MakeError>
     requires description { IsDescription desc }
-    ensures made { IfOk result (λ h. IsMade desc h.machine) }
+    ensures state { IfOk result (λ b. IsFirstState desc b.value.machine) }
+    ensures desc { IfOk result (λ b. b.value.desc ≡ kept_of desc) }
+    ensures limits { IfOk result (λ b. b.value.limits ≡ limits) }
     ensures refused { IfErr result (λ e. IsMadeFrom desc (Err e)) }
 {
     requesters_are_devices();
     let machine = Machine::new(alloc, &desc)?;
     desc.fills = Listed::new(alloc);
-    Ok(Handle::of(Box::new(alloc, Kept::new(machine, desc))?))
+    Ok(Box::new(alloc, Kept::new(machine, desc, limits))?)
+}
+
+// The handle gets the machine, unless this maps more than may be.
+fn put(handle: &mut Handle, kept: Box<Kept>) -> u32
+    requires { handle.old.machine ≡ None }
+    ensures codes { (result ≡ codes.done) ⊎ (result ≡ codes.full) }
+    ensures done { result ≡ codes.done → (handle.new.machine ≡ Some kept.value)
+        × (is_over kept.value.limits kept.value.machine ≡ false) }
+    ensures full { result ≡ codes.full → (handle.new ≡ handle.old)
+        × IsTooMuchIn kept.value.limits kept.value.machine }
+{
+    if kept.is_over() || !kept.is_within() {
+        return FULL;
+    }
+    *handle = Handle::of(kept);
+    DONE
 }
 
 /// A machine's end. The handle has none then.

@@ -2,14 +2,14 @@
 ghost use Rattle.std.specs.Prelude.{◌≡◌, ◌⊎◌, ◌<◌, ◌≤◌, length, replicate};
 ghost use Rattle.guest_windows.specs.Windows.{inside};
 ghost use Rattle.its_numbers.specs.Codes as codes;
-ghost use Rattle.its_c.specs.Keeping.{with_machine};
+ghost use Rattle.its_c.specs.Keeping.{with_machine, IsWriteCode};
 ghost use Rattle.its_c.specs.Pieces.{IsStretch, IsRead, IsNextPage};
 ghost use Rattle.owned_machine.specs.Pieces.{written_to};
 
 use crate::kept::Kept;
 use crate::pieces::{is_stretch, read};
 use guest_windows::Memory;
-use its_numbers::{DONE, NO_MEMORY, OUTSIDE, StretchOut};
+use its_numbers::{DONE, FULL, NO_MEMORY, OUTSIDE, StretchOut};
 use its_types::Addr;
 use std::alloc::Global;
 
@@ -31,7 +31,9 @@ pub fn read_memory(memory: &Memory, address: u64, buffer: &mut [u8]) -> u32
 /// Bytes are written to guest memory: all of them, or none.
 pub fn write_memory(kept: &mut Kept, alloc: Global, address: u64, bytes: &[u8]) -> u32
     ensures codes { IsStretch kept.old.machine.memory address (length bytes.now)
-        → (result ≡ codes.done) ⊎ (result ≡ codes.no_memory) }
+        → IsWriteCode result kept.old.limits }
+    ensures full { result ≡ codes.full → kept.new ≡ kept.old }
+    ensures beside { (kept.new.desc ≡ kept.old.desc) × (kept.new.limits ≡ kept.old.limits) }
     ensures done { result ≡ codes.done
         → kept.new ≡ with_machine kept.old (written_to kept.old.machine address bytes.now) }
     ensures no_memory { result ≡ codes.no_memory → kept.new ≡ kept.old }
@@ -40,6 +42,9 @@ pub fn write_memory(kept: &mut Kept, alloc: Global, address: u64, bytes: &[u8]) 
 {
     if !is_stretch(memory_of(kept), address, bytes.len()) {
         return OUTSIDE;
+    }
+    if !kept.has_room(address, bytes.len() as u64) {
+        return FULL;
     }
     match kept.write_memory(alloc, Addr(address), bytes) {
         Ok(()) => DONE,

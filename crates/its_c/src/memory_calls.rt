@@ -3,7 +3,8 @@ ghost use Rattle.std.specs.Prelude.{◌≡◌, ◌⊎◌, None, length, replicat
 ghost use Rattle.guest_windows.specs.Windows.{inside};
 ghost use Rattle.owned_machine.specs.Pieces.{written_to};
 ghost use Rattle.its_numbers.specs.Codes as codes;
-ghost use Rattle.its_c.specs.Held.{InMachine, beside};
+ghost use Rattle.its_c.specs.Held.{InMachine, InHeld, beside};
+ghost use Rattle.its_c.specs.Keeping.{IsWriteCode};
 ghost use Rattle.its_c.specs.Pieces.{IsStretch, IsRead, IsNextPage};
 
 use crate::handle::Handle;
@@ -42,9 +43,10 @@ pub extern "C" fn its_write_memory(
 ) -> u32
     ensures empty { handle.old.machine ≡ None → result ≡ codes.handle }
     ensures kept { beside handle.new ≡ beside handle.old }
-    ensures codes { InMachine handle.old handle.new (λ u w.
-        IsStretch u.memory address (length bytes.now)
-        → (result ≡ codes.done) ⊎ (result ≡ codes.no_memory)) }
+    ensures codes { InHeld handle.old handle.new (λ h k.
+        IsStretch h.machine.memory address (length bytes.now)
+        → IsWriteCode result h.limits) }
+    ensures full { InMachine handle.old handle.new (λ u w. result ≡ codes.full → w ≡ u) }
     ensures done { InMachine handle.old handle.new (λ u w.
         result ≡ codes.done → w ≡ written_to u address bytes.now) }
     ensures no_memory { InMachine handle.old handle.new (λ u w.

@@ -1,10 +1,11 @@
 //! Saves and migrations (KVM document arm-vgic-its).
-ghost use Rattle.std.specs.Prelude.{◌≡◌};
+ghost use Rattle.std.specs.Prelude.{◌≡◌, ◌≢◌};
 ghost use Rattle.its_numbers.specs.Codes as codes;
+ghost use Rattle.its_c.specs.Keeping.{no_limit};
 ghost use Rattle.its_c.specs.Saves.{IsSaved, IsMoved, IsUnsaved};
 
 use crate::kept::Kept;
-use its_numbers::{DONE, FAULT, NO_MEMORY, SaveFaultOut, save_fault_out};
+use its_numbers::{DONE, FAULT, FULL, NO_MEMORY, SaveFaultOut, save_fault_out};
 use its_plain::{Call, Reply, SaveError};
 use std::alloc::Global;
 
@@ -13,8 +14,14 @@ use std::alloc::Global;
 pub fn save(kept: &mut Kept, alloc: Global, fault: &mut SaveFaultOut) -> u32
     ensures done { result ≡ codes.done → IsSaved kept.old.machine kept.new.machine }
     ensures otherwise { IsUnsaved result kept.old.machine kept.new.machine fault.old fault.new }
-    ensures beside { (kept.new.desc ≡ kept.old.desc) × (kept.new.limit ≡ kept.old.limit) }
+    ensures full { result ≡ codes.full → kept.old.limits.memory ≢ no_limit }
+    ensures beside { (kept.new.desc ≡ kept.old.desc) × (kept.new.limits ≡ kept.old.limits) }
 {
+    match kept.has_room_for_tables(alloc) {
+        Ok(true) => {}
+        Ok(false) => return FULL,
+        Err(_) => return NO_MEMORY,
+    }
     match kept.answer(alloc, &Call::Save) {
         Ok(Reply::Saved) => DONE,
         Ok(Reply::SaveFault(found)) => {
@@ -31,8 +38,14 @@ pub fn save(kept: &mut Kept, alloc: Global, fault: &mut SaveFaultOut) -> u32
 pub fn migrate(kept: &mut Kept, alloc: Global, fault: &mut SaveFaultOut) -> u32
     ensures done { result ≡ codes.done → IsMoved kept.old.machine kept.new.machine }
     ensures otherwise { IsUnsaved result kept.old.machine kept.new.machine fault.old fault.new }
-    ensures beside { (kept.new.desc ≡ kept.old.desc) × (kept.new.limit ≡ kept.old.limit) }
+    ensures full { result ≡ codes.full → kept.old.limits.memory ≢ no_limit }
+    ensures beside { (kept.new.desc ≡ kept.old.desc) × (kept.new.limits ≡ kept.old.limits) }
 {
+    match kept.has_room_for_tables(alloc) {
+        Ok(true) => {}
+        Ok(false) => return FULL,
+        Err(_) => return NO_MEMORY,
+    }
     match kept.migrate(alloc) {
         Ok(()) => DONE,
         Err(SaveError::Fault(found)) => {

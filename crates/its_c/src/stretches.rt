@@ -3,13 +3,13 @@ ghost use Rattle.std.specs.Prelude.{◌≡◌, ◌≢◌, ◌⊎◌, ◌≤◌, 
 ghost use Rattle.its_types.specs.Ranges.{most_vcpus};
 ghost use Rattle.its_numbers.specs.Codes as codes;
 ghost use Rattle.its_numbers.specs.Lists.{HasFirstOf, SameRest, stretch_out};
-ghost use Rattle.its_c.specs.Stretches.{needed, written_tables as tables};
+ghost use Rattle.its_c.specs.Stretches.{needed, needed_by, is_command, written_tables as tables};
 ghost use Rattle.step_views.specs.Pairs.{pair_of};
 
 use crate::kept::Kept;
-use its_numbers::{DONE, NO_MEMORY, StretchOut, put_tables};
+use its_numbers::{DONE, NO_MEMORY, RANGE, StretchOut, put_tables};
 use std::alloc::Global;
-use step_views::{Needs, Stretch, needs};
+use step_views::{Needs, Stretch, needs, needs_by};
 use table_save::written_tables;
 
 /// The stretches that the next step reads, as many as the list takes, whose rest stays; and how
@@ -22,6 +22,27 @@ pub fn needed(kept: &Kept, list: &mut [StretchOut], count: &mut u64) -> u32
     ensures count { count.new ≡ length (needed kept.now.machine) }
 {
     *count = put_needs(needs(kept.machine().parts(), 0), list);
+    DONE
+}
+
+/// So the stretches that the next step reads where the bytes of its command are these.
+pub fn needed_by(kept: &Kept, command: &[u8], list: &mut [StretchOut], count: &mut u64) -> u32
+    ensures code { result ≡ codes.if_in_range (is_command command.now) }
+    ensures told { result ≡ codes.done
+        → HasFirstOf (needed_by kept.now.machine command.now) list.new }
+    ensures rest { result ≡ codes.done
+        → SameRest (length (needed_by kept.now.machine command.now)) list.old list.new }
+    ensures length { length list.new ≡ length list.old }
+    ensures count { result ≡ codes.done
+        → count.new ≡ length (needed_by kept.now.machine command.now) }
+    ensures only { result ≢ codes.done → (list.new ≡ list.old) × (count.new ≡ count.old) }
+{
+    if command.len() != 32 {
+        return RANGE;
+    }
+    let mut bytes = [0; 32];
+    bytes.copy_from_slice(command);
+    *count = put_needs(needs_by(kept.machine().parts(), 0, &bytes), list);
     DONE
 }
 

@@ -32,6 +32,9 @@ pub const NUMBERS: DescriptionIn = DescriptionIn {
     cwriter: 0,
     baser0: 0,
     baser1: 0,
+    event_limit: u64::MAX,
+    device_limit: u64::MAX,
+    memory_limit: u64::MAX,
 };
 
 /// 2 MiB.
@@ -73,7 +76,8 @@ const COMMANDS: [u64; 12] = [
     0,
 ];
 
-const NO_SAVE_FAULT: SaveFaultOut = SaveFaultOut {
+/// No fault of a save.
+pub const NO_SAVE_FAULT: SaveFaultOut = SaveFaultOut {
     kind: 0,
     device: 0,
     region: 0,

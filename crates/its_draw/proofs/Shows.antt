@@ -1,27 +1,24 @@
 -- One line more is shown.
-use Rattle.std.proofs.Common.{◌≡◌, ℕ, zero, suc, ◌+◌, ◌<◌, ◌≤◌, cond, List, [], ◌∷◌, ◌++◌, length, take, get_or, map, Some, None, refl, sym, ap, subst}
-use Rattle.std.proofs.Common.{◌∙◌, arith, append_assoc, eq-eqb}
+use Rattle.std.proofs.Common.{◌≡◌, ℕ, suc, ◌+◌, ◌<◌, ◌≤◌, List, [], ◌∷◌, ◌++◌, length, take, get_or, map, Some, refl, sym, ap, subst}
+use Rattle.std.proofs.Common.{◌∙◌, arith, append_assoc}
 use Rattle.std.proofs.lemmas.List.{take_more, take_all, map-append}
 use Rattle.its_plain.specs.Answer.{answer}
 use Rattle.its_plain.specs.History.{IsLegal, after}
 use Rattle.its_plain.specs.Plain.{Plain}
 use Rattle.its_plain.specs.Runs.{Leg, IsLegRun, ArePartOfPhases}
-use Rattle.its_plain.specs.declared.call.Call.{Call}
 use Rattle.its_plain.specs.declared.call.Entry.{Entry}
-use Rattle.its_history.specs.Histories.{Seat, history_lines}
+use Rattle.its_history.specs.Histories.{Seat}
 use Rattle.its_history.specs.declared.trace.EntryLine.{EntryLine}
-use Rattle.trace_check.specs.Cursors.{Progress, threads_of, call_of, with_thread, next_call, opened, taken, more}
+use Rattle.trace_check.specs.Cursors.{Progress, next_call, opened, taken, more}
 use Rattle.trace_check.specs.Differences.{seat, lines as run_lines}
-use Rattle.trace_check.proofs.Counting.{has_left}
 use Rattle.trace_check.proofs.Exact.{run_part}
-use Rattle.trace_check.proofs.Following.{HasNext, has_next, next_means}
+use Rattle.trace_check.proofs.Following.{HasNext, has_next}
 use Rattle.trace_check.proofs.Going.{IsAt, IsSettled, at_first, at_opened, opened_settled, at_taken, settled_settled}
+use Rattle.trace_check.proofs.LinesOf.{NthOf, many_lines, next_is, nth}
 use Rattle.trace_check.proofs.Lists.{after_more, legal_reply}
 use Rattle.trace_check.proofs.Parts.{part_front}
-use Rattle.trace_check.specs.Fields.{HasCall, progress}
 use Rattle.its_draw.specs.Marks.{mark_of}
 use Rattle.its_draw.specs.Replays.{ShowsNext, ShowsRun, entry_mark, lines, marks, marks_of, shown_mark, shown_told, told, told_of}
-use Rattle.trace_check.specs.declared.cursor.Cursor.{Cursor}
 use Rattle.its_draw.specs.declared.drawing.Shown.{Shown}
 
 -- ---- lists
@@ -32,60 +29,12 @@ map_more f xs x = map-append f xs (x ∷ [])
 map_taken : {A B : Type 0} (f : A → B) (xs : List A) (k : ℕ) (x : A) → k < length xs → x ≡ get_or xs k x → map f (take (k + 1) xs) ≡ map f (take k xs) ++ f x ∷ []
 map_taken f xs k x lt is = ap (map f) (take_more xs k x lt ∙ (λ i. take k xs ++ sym is i ∷ [])) ∙ map_more f (take k xs) x
 
-lines_long : (s : ℕ → Seat) (n : ℕ) (h : List Entry) → length (history_lines s n h) ≡ length h
-lines_long s n [] = refl
-lines_long s n (e ∷ h) = ap suc (lines_long s (suc n) h)
-
--- ---- calls of the cursor
-
--- the next call of a line's thread is one that the cursor has
-pub has_call : (c : Cursor) (phase thread i : ℕ) (call : Call) → next_call (progress c) phase thread ≡ Some (i, call) → HasCall c i
-has_call c phase thread i call e =
-    let is = next_means (progress c) phase thread i call e in
-    let h = has_left (threads_of c.phases.now) c.answered.items i call is.call_is in
-    record { below = h.0; left = h.1 }
-
-next_is : (p : Progress) (i : ℕ) (call : Call) → call_of (threads_of p.phases) p.answered i ≡ Some call → next_call p p.number (suc i) ≡ Some (i, call)
-next_is p i call e =
-    ap (λ b. cond b (with_thread i (call_of (threads_of p.phases) p.answered i)) None) (eq-eqb p.number p.number refl) ∙ ap (with_thread i) e
-
 -- ---- lines
 
 pub told_more : (entries : List EntryLine) (k : ℕ) (line : EntryLine) → k < length entries → line ≡ get_or entries k line → (shown : List Shown) (s : Shown)
     → told shown ≡ lines (take k entries) → shown_told s ≡ told_of line → told (shown ++ s ∷ []) ≡ lines (take (k + 1) entries)
 told_more entries k line lt is shown s before here =
     map_more shown_told shown s ∙ ((λ i. before i ++ here i ∷ []) ∙ sym (map_taken told_of entries k line lt is))
-
--- the entry of a history that a line is of
-record NthOf (s : ℕ → Seat) (h : List Entry) (k : ℕ) (line : EntryLine) : Type 0 where
-  entry : Entry
-  rest : List Entry
-  cut : h ≡ take k h ++ entry ∷ rest
-  front : take (suc k) h ≡ take k h ++ entry ∷ []
-  phase : line.phase ≡ (s entry.pass).0
-  thread : line.thread ≡ (s entry.pass).1
-
-nth : (s : ℕ → Seat) (n : ℕ) (h : List Entry) (k : ℕ) (line : EntryLine) → k < length (history_lines s n h) → line ≡ get_or (history_lines s n h) k line
-    → NthOf s h k line
-nth s n [] k line lt is = absurd (omega arith)
-nth s n (x ∷ h) zero line lt is = record {
-  entry = x;
-  rest = h;
-  cut = refl;
-  front = refl;
-  phase = λ d. (is d).phase;
-  thread = λ d. (is d).thread;
-}
-nth s n (x ∷ h) (suc k) line lt is =
-    let r = nth s (suc n) h k line (omega arith) is in
-    record {
-      entry = r.entry;
-      rest = r.rest;
-      cut = ap (λ (l : List Entry). x ∷ l) r.cut;
-      front = ap (λ (l : List Entry). x ∷ l) r.front;
-      phase = r.phase;
-      thread = r.thread;
-    }
 
 -- ---- runs of a leg
 
@@ -142,6 +91,6 @@ module _ (first : Plain) (leg : Leg) (entries : List EntryLine) (k : ℕ) (shown
   pub going_all : length entries ≤ k → ShowsRun first leg entries [] shown u
   going_all le = λ h run same.
       let at = g h run same in
-      let long : length entries ≡ length h = ap length same ∙ lines_long (λ pass. seat leg pass) 0 h in
+      let long : length entries ≡ length h = ap length same ∙ many_lines leg h in
       let all : take k h ≡ h = take_all k h (omega (arith, le, long)) in
       (at.marks_are ∙ ap marks_of all, at.now_is ∙ ap (after first) all)

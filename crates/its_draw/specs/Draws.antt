@@ -1,11 +1,11 @@
 -- What `draw` says of a script and a report.
-use Rattle.std.specs.Prelude.{◌≡◌, ℕ, List, [], codes, Option, Ok}
+use Rattle.std.specs.Prelude.{◌≡◌, ℕ, List, [], Option, Ok}
 use Rattle.event_script.specs.declared.script.Script.{Script}
 use Rattle.its_plain.specs.Described.{IsFirstState}
-use Rattle.its_plain.specs.Machine.{IsDescription}
 use Rattle.its_plain.specs.Plain.{Plain}
 use Rattle.its_plain.specs.Runs.{IsRun}
 use Rattle.its_plain.specs.declared.call.Entry.{Entry}
+use Rattle.its_answers.specs.Agreed.{IsAgreed}
 use Rattle.its_answers.specs.Checked.{CheckCauses, CheckSays, IsCheckInput, read_report}
 use Rattle.its_answers.specs.Legs.{all_told}
 use Rattle.its_answers.specs.Streams.{WasRead}
@@ -42,16 +42,6 @@ pub record IsPictureOf (input text : List ℕ) : Type 0 where
   pub lines_are : told drawing.calls ≡ all_lines (all_told script first histories)
   pub marks_are : marks drawing.calls ≡ all_marks histories
   pub text_is : text ≡ svg_text drawing
-
--- a check says so
-abbrev pub IsAgreed : List ℕ → Type 0
-IsAgreed input = CheckSays input status.Ok (codes "agrees\n")
-
--- its description is one, and its machine is made
-pub record StartsWell (script : Script) : Type 0 where
-  pub description : IsDescription script.desc
-  pub first : Plain
-  pub starts : IsFirstState script.desc first
 
 -- a picture where a check agrees, and else what the check says
 abbrev pub DrawSays : List ℕ → Status → List ℕ → Type 0

@@ -5,8 +5,8 @@ ghost use Rattle.its_answers.specs.Checked.{read_report};
 ghost use Rattle.its_history.specs.Reading.{IsReadAs};
 ghost use Rattle.its_plain.specs.Described.{IsFirstState};
 ghost use Rattle.trace_check.specs.Verdicts.{copies_for, copies_of};
-ghost use Rattle.its_draw.specs.Draws.{DrawSays, IsAgreed, IsDrawn, IsPicture, IsPictureOf};
-ghost use Rattle.its_draw.specs.Draws.{StartsWell};
+ghost use Rattle.its_answers.specs.Agreed.{IsAgreed, StartsWell};
+ghost use Rattle.its_draw.specs.Draws.{DrawSays, IsDrawn, IsPicture, IsPictureOf};
 
 use crate::drawing::Drawing;
 use crate::scene::Scene;

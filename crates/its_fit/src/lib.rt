@@ -4,6 +4,7 @@
 
 mod guess;
 mod lines;
+mod reach;
 mod recording;
 mod replay;
 mod search;

@@ -10,6 +10,7 @@ ghost use Rattle.trace_check.specs.Differences.{pending_texts};
 ghost use Rattle.its_fit.specs.Replays as spec;
 ghost use Rattle.its_fit.specs.Replays.{IsAfter, table_count};
 
+use crate::reach::commute;
 use crate::replay::{Made, call_at, remade, replay};
 use crate::told::{Answered, Told};
 use event_script::Calls;
@@ -171,5 +172,19 @@ impl<'a> Recorded<Listed<Made>> for Recording<'a> {
                 Err(error)
             }
         }
+    }
+
+    fn commutes(&self, thread: usize, call: usize, other_thread: usize, other_call: usize) -> bool {
+        let Some(made) = call_at(self.calls, Made { thread, call }) else {
+            return false;
+        };
+        let other = Made {
+            thread: other_thread,
+            call: other_call,
+        };
+        let Some(passed) = call_at(self.calls, other) else {
+            return false;
+        };
+        commute(&made, &passed)
     }
 }

@@ -52,8 +52,9 @@ pub enum Verdict {
 ///
 /// The leg is that of the recording, alone. A guess comes first, which goes by the times at which
 /// calls returned and is bounded by itself; once it has failed, at most `bound` calls are tried,
-/// each after all that come before it are made again. A description that makes no machine is
-/// answered as if memory had run out.
+/// each after all that come before it are made again. Where one commutes with all that may stand
+/// before it, no other is tried in its place. A description that makes no machine is answered as if
+/// memory had run out.
 pub fn fit(
     alloc: Global,
     recording: &Recording<'_>,

@@ -2,6 +2,7 @@
 ghost use Rattle.std.specs.Prelude.{◌≡◌, ◌^◌, ◌<◌, ◌≤◌, length};
 ghost use Rattle.its_plain.specs.Machine.{IsDescription};
 ghost use Rattle.its_migrate.specs.Shared.{IsSharedFrom};
+ghost use Rattle.its_turns.specs.Words.{IsLong};
 
 use its_plain::{Desc, MakeError};
 use its_turns::{Machine, Root};
@@ -17,7 +18,9 @@ pub fn share(alloc: Global, desc: &Desc) -> Result<(Machine, Root), MakeError>
     requires stamps { desc.now.limits.stamp_last < 2 ^ 24 }
     requires stamps_of_two { length desc.now.translators ≡ 2
         → desc.now.limits.stamp_last < 4096 }
-    requires places { desc.now.limits.place_last < 2 ^ 40 }
+    requires places { desc.now.limits.place_last < 2 ^ 56 }
+    requires few_stamps { IsLong desc.now.limits → desc.now.limits.stamp_last < 2 ^ 8 }
+    requires alone { IsLong desc.now.limits → length desc.now.translators ≡ 1 }
     ensures { IsSharedFrom desc.now result }
 {
     let parts = Owned::new(alloc, desc)?.into_parts();

@@ -29,7 +29,7 @@ handle = 5
 abbrev pub if_in_range : Bool → ℕ
 if_in_range b = if b then done else range
 
--- as many events are mapped as may be
+-- as many events or devices are mapped as may be, or as much guest memory is held, or more would be restored
 abbrev pub full : ℕ
 full = 6
 

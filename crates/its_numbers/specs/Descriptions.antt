@@ -1,4 +1,4 @@
--- Descriptions as they are given in numbers, and the description that they stand for.
+-- Descriptions as they are given in numbers, and the description and the limits that they stand for.
 use Rattle.std.specs.Prelude.{ℕ, ◌-◌, Bool, false, ◌&&◌, ◌==◌, nat_le, nat_lt, if◌then◌else◌, List, [], ◌∷◌, take, drop, map, Option, Some, None}
 use Rattle.gicr_regs.specs.declared.values.GicrRegisters.{GicrRegisters}
 use Rattle.gicr_regs.specs.declared.values.GicrValues.{GicrValues}
@@ -15,6 +15,7 @@ use Rattle.its_plain.specs.declared.desc.Its.{Its}
 use Rattle.its_plain.specs.declared.desc.LpiTables.{LpiTables}
 use Rattle.its_plain.specs.declared.desc.LpiTables.TheVariants.{Described, Registers}
 use Rattle.its_plain.specs.declared.desc.Requesters.{Requesters}
+use Rattle.its_numbers.specs.declared.limits.GuestLimits.{GuestLimits}
 use Rattle.its_numbers.specs.declared.numbers.DescriptionIn.{DescriptionIn}
 use Rattle.its_numbers.specs.declared.numbers.FillIn.{FillIn}
 use Rattle.its_numbers.specs.declared.numbers.RedistributorIn.{RedistributorIn}
@@ -110,3 +111,8 @@ description_of d windows pending redistributors requesters fills bytes = record 
   from_kvm = d.restored == 2;
   track = false;
 }
+
+-- ---- how much a guest may take
+
+abbrev pub guest_limits_of : DescriptionIn → GuestLimits
+guest_limits_of d = record { events = d.event_limit; devices = d.device_limit; memory = d.memory_limit }

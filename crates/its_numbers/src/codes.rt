@@ -19,8 +19,8 @@ pub const FAULT: u32 = 4;
 /// The handle has no machine; or, where one is to be made, has one already. Nothing changed.
 pub const HANDLE: u32 = 5;
 
-/// As many events are mapped as may be, or more, and the command would map another. Nothing
-/// changed.
+/// As many events or devices are mapped as may be, or more, and the command would map another; or
+/// more guest memory would be held than may be; or more would be restored. Nothing changed.
 pub const FULL: u32 = 6;
 
 /// Another pass has a part that the call needs, or made a call meanwhile. Nothing was done, and the

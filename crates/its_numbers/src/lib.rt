@@ -6,6 +6,7 @@ mod codes;
 mod describing;
 mod events;
 mod faults;
+mod limits;
 mod lists;
 mod loose;
 mod mapped;
@@ -16,6 +17,7 @@ pub use codes::{BUSY, DONE, FAULT, FULL, HANDLE, NO_MEMORY, OUTSIDE, RANGE, SPEN
 pub use describing::{description, is_in_range};
 pub use events::{EventOut, event_out};
 pub use faults::{MakeFaultOut, NO_FAULT, SaveFaultOut, make_fault_out, save_fault_out};
+pub use limits::{GuestLimits, guest_limits};
 pub use lists::{StretchOut, put_lpis, put_tables};
 pub use loose::Loose;
 pub use mapped::{

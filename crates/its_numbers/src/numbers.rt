@@ -39,6 +39,12 @@ pub struct DescriptionIn {
     pub baser0: u64,
     /// GITS_BASER1, of the collection table.
     pub baser1: u64,
+    /// How many events may be mapped; 2^64 - 1: as many as there are.
+    pub event_limit: u64,
+    /// How many devices may be mapped; 2^64 - 1: as many as there are.
+    pub device_limit: u64,
+    /// How many bytes of guest memory may be held; 2^64 - 1: as many as are written.
+    pub memory_limit: u64,
 }
 
 /// A window of guest memory, which is all zeros at first.

@@ -5,3 +5,6 @@ pub mod Seen
 pub mod Leading
 pub mod SeenWhole
 pub mod Needing
+pub mod Beside
+pub mod Home
+pub mod Shown

@@ -1,25 +1,25 @@
--- What the next step reads, of parts that are lent.
+-- What the next step reads, of parts in hand.
 use Rattle.std.proofs.Common.{◌≡◌, ℕ, suc, ◌+◌, ◌-◌, ◌<◌, Bool, cond, List, [], ◌∷◌, ◌++◌, Option, Some, None, refl, sym, ap, ◌∙◌, subst, arith, add-zero}
-use Rattle.std.specs.Prelude.{slice_index_or}
 use Rattle.std.specs.List.{flat_map, range_with_len}
 use Rattle.std.proofs.lemmas.List.Folds.{flat_map-map}
-use Rattle.gits_regs.specs.Registers.{queue_place}
+use Rattle.gits_regs.specs.Registers.{Registers, queue_place}
+use Rattle.guest_windows.specs.Windows.{Window}
 use Rattle.its_command.specs.declared.command.Command.{Command}
+use Rattle.its_types.specs.Maps.{Maps}
 use Rattle.its_types.specs.Ranges.{first_lpi, lpi_count}
 use Rattle.its_types.specs.declared.machine.Shape.{Shape}
 use Rattle.its_plain.specs.Answer.{next_bytes}
-use Rattle.its_plain.specs.Plain.{Plain, Translator, conf_of, no_translator, regs_of, maps_of, translator}
+use Rattle.its_plain.specs.Plain.{Plain, Translator, conf_of, regs_of, maps_of}
 use Rattle.its_plain.specs.declared.call.StepReply.{StepReply}
 use Rattle.its_plain.specs.declared.call.StepReply.TheVariants.{Idle, Ran, Refused, QueueFault}
 use Rattle.cmd_exec.specs.Met.{MeetsNone, MeetsCommand}
 use Rattle.lpi_config.specs.Conf.{Conf}
 use Rattle.lpi_pending.specs.InHand.{RedistParts, conf_in}
-use Rattle.owned_parts.specs.Owned.{conf_or, one_or_two, redistributor_in, state_in_place, translator_at}
-use Rattle.owned_parts.specs.declared.in_place.InPlace.{InPlace}
+use Rattle.owned_parts.specs.Owned.{conf_or, redistributor_in}
 use Rattle.table_save.specs.Areas.{redistributors_of}
 use Rattle.step_views.specs.Pairs.{all_told, with_stretch}
 use Rattle.step_views.specs.Reads.{reads, met_reads, command_reads, still_reads, byte_read, byte_reads, table_read, table_reads}
-use Rattle.its_shared.specs.Besides.{conf_read}
+use Rattle.its_shared.specs.Besides.{HasFirst, conf_read}
 
 -- ---- of a state
 
@@ -42,27 +42,21 @@ module _ (u : Plain) (i : ℕ) where
       ∙ ap (λ (x : Command). all_told ((queue_place (regs_of u i), 32) ∷ [])
       (command_reads u.layout.shape (regs_of u i) (maps_of u i) u.redistributors x)) met.command
 
--- ---- of parts that are lent
+-- ---- where translator 0 and memory are known
 
-first_of : (a d : Translator) (o : Option Translator) → slice_index_or (one_or_two a o) 0 d ≡ a
-first_of a d None = refl
-first_of a d (Some b) = refl
+module _ (u : Plain) (s : Shape) (r : Registers) (m : Maps) (memory : List Window) (has : HasFirst u s r m memory) where
+  pub first_still : (a : StepReply) → MeetsNone r memory a → reads u 0 ≡ still_reads a
+  first_still a none =
+      still_read u 0 a (subst (λ (ws : List Window). MeetsNone (regs_of u 0) ws a) (sym has.memory_is)
+      (subst (λ (t : Translator). MeetsNone t.regs memory a) (sym has.translator_is) none))
 
-module _ (p : InPlace) where
-  pub first_is : translator (state_in_place p) 0 ≡ translator_at p.first
-  first_is = first_of (translator_at p.first) no_translator _
-
-  pub lent_still : (a : StepReply) → MeetsNone p.first.regs.now p.memory.now a → still_reads a ≡ reads (state_in_place p) 0
-  lent_still a none = sym (still_read (state_in_place p) 0 a (subst (λ (t : Translator). MeetsNone t.regs p.memory.now a) (sym first_is) none))
-
-  pub lent_met : (c : Command) → MeetsCommand p.first.regs.now p.memory.now c
-      → all_told ((queue_place p.first.regs.now, 32) ∷ [])
-      (command_reads p.layout.now.shape p.first.regs.now p.first.maps.now.maps (redistributors_of p.layout.now.shape p.redists.now) c)
-      ≡ reads (state_in_place p) 0
-  lent_met c met =
-      ap (λ (t : Translator). all_told ((queue_place t.regs, 32) ∷ [])
-      (command_reads p.layout.now.shape t.regs t.maps (redistributors_of p.layout.now.shape p.redists.now) c)) (sym first_is)
-      ∙ sym (met_read (state_in_place p) 0 c (subst (λ (t : Translator). MeetsCommand t.regs p.memory.now c) (sym first_is) met))
+  pub first_met : (c : Command) → MeetsCommand r memory c
+      → reads u 0 ≡ all_told ((queue_place r, 32) ∷ []) (command_reads s r m u.redistributors c)
+  first_met c met =
+      met_read u 0 c (subst (λ (ws : List Window). MeetsCommand (regs_of u 0) ws c) (sym has.memory_is)
+      (subst (λ (t : Translator). MeetsCommand t.regs memory c) (sym has.translator_is) met))
+      ∙ (ap (λ (t : Translator). all_told ((queue_place t.regs, 32) ∷ []) (command_reads u.layout.shape t.regs t.maps u.redistributors c)) has.translator_is
+      ∙ ap (λ (k : Shape). all_told ((queue_place r, 32) ∷ []) (command_reads k r m u.redistributors c)) has.shape)
 
 -- ---- configurations
 

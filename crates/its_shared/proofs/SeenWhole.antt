@@ -2,7 +2,6 @@
 use Rattle.std.proofs.Common.{◌≡◌, List, [], refl, ap, sym, ◌∙◌, subst}
 use Rattle.its_types.specs.declared.machine.Word.{Word}
 use Rattle.its_plain.specs.History.{after}
-use Rattle.its_plain.specs.Sound.{IsSound}
 use Rattle.its_plain.specs.declared.layout.Layout.{Layout}
 use Rattle.lpi_pending.specs.InHand.{RedistParts}
 use Rattle.owned_parts.specs.Owned.{AreAllInHand}
@@ -14,12 +13,9 @@ use Rattle.its_turns.specs.Calls.{GoesOn}
 use Rattle.its_turns.specs.Told.{Looks, IsLastOrLater}
 use Rattle.its_turns.proofs.Telling.{goes_emptied, goes_looked, got_first}
 use Rattle.held_parts.specs.Taking.{TakesOnly, holding}
-use Rattle.held_parts.specs.Wholes.{IsNoShard, TakesWhole, redists_in, state_of_whole, translators_in}
+use Rattle.held_parts.specs.Wholes.{IsNoShard, TakesWhole, state_of_whole}
 use Rattle.held_parts.specs.declared.whole.Whole.{Whole}
 use Rattle.held_parts.proofs.Wholes.{takes_whole}
-use Rattle.table_save.proofs.SoundState.{redistributors_low}
-use Rattle.table_save.specs.Areas.{HaveLowTables}
-use Rattle.step_views.specs.Firsts.{HaveConfs}
 use Rattle.its_shared.specs.Seeing.{HasSeen}
 use Rattle.its_shared.proofs.Seen.{saw}
 
@@ -28,18 +24,6 @@ pub lent_hand : (i : InPlace) (l : Layout) (rs : RedistParts) → i.layout.now �
     → AreAllInHand i.layout.now.shape i.redists.now
 lent_hand i l rs layout redists all =
     subst (λ (k : Layout). AreAllInHand k.shape i.redists.now) (sym layout) (subst (λ (xs : RedistParts). AreAllInHand l.shape xs) (sym redists) all)
-
--- so are their configurations, whose tables lie low
-pub lent_confs : (i : InPlace) (l : Layout) (rs : RedistParts) → i.layout.now ≡ l → i.redists.now ≡ rs → AreAllInHand l.shape rs → HaveLowTables l.shape rs
-    → HaveConfs i.layout.now.shape.vcpus i.redists.now
-lent_confs i l rs layout redists all low =
-    subst (λ (k : Layout). HaveConfs k.shape.vcpus i.redists.now) (sym layout) (subst (λ (xs : RedistParts). HaveConfs l.shape.vcpus xs) (sym redists)
-    (λ v below. let h = (all v below).0 in (h.0, h.1, low v h.0 h.1 below)))
-
-pub taken_low : (s : Setup) (v w : View) (x : Whole) → TakesWhole s v x w → HaveLowTables s.start.layout.shape (redists_in x)
-taken_low s v w x taken =
-    redistributors_low s.start.layout (translators_in x) x.memory.value.memory x.memory.value.track (redists_in x)
-    (subst IsSound (sym taken.state) taken.machine.sound)
 
 module _ (s : Setup) (v w x z : View) (whole : Whole) (own : v.setup ≡ s) (taken : TakesWhole s v whole w) (bare : v.held ≡ []) (word : Word)
     (looks : Looks w word x) (later : IsLastOrLater w word) (home : z ≡ holding x []) where

@@ -1,16 +1,21 @@
 -- The outcome of making a machine that threads share.
-use Rattle.std.specs.Prelude.{◌≡◌, Option, Some, None, Result, Ok, Err}
+use Rattle.std.specs.Prelude.{◌≡◌, ◌-◌, ◌^◌, Option, Some, None, Result, Ok, Err}
 use Rattle.its_plain.specs.Described.{IsFirstState, IsRefused}
 use Rattle.its_plain.specs.declared.desc.Desc.{Desc}
 use Rattle.its_plain.specs.declared.make.MakeError.{MakeError}
 use Rattle.its_plain.specs.declared.make.MakeError.TheVariants as errors
 use Rattle.its_steps.specs.World.{first_view}
+use Rattle.its_types.specs.declared.machine.Limits.{Limits}
 use Rattle.its_turns.specs.Opening.{kept_of}
 use Rattle.its_shared.specs.Knowing.{Known}
 
--- a description, with as many shards of the cache as a machine that threads share has
+-- a stamp has 8 bits, and a place 56
+abbrev pub wide_places : Limits
+wide_places = record { stamp_last = 2 ^ 8 - 1; place_last = 2 ^ 56 - 1 }
+
+-- a description, with as many shards of the cache as a machine that threads share has, and with its limits
 abbrev pub shared : Desc → Desc
-shared d = record d { shards = 64 }
+shared d = record d { shards = 64; limits = wide_places }
 
 -- the root of a machine that begins in the first state of the description: it has seen no call, and none was made
 pub record IsFirst (d : Desc) (k : Known) : Type 0 where

@@ -1,9 +1,13 @@
 -- What a pass is told of the machine's state, which it sees without a call of the history.
 use Rattle.std.specs.Prelude.{◌≡◌, ◌≢◌, ◌⊎◌, ℕ, List, length, map, min, Some, Result, Ok, Err}
+use Rattle.std.specs.List.{AllByRecursion}
 use Rattle.its_types.specs.declared.machine.Placed.{Placed}
+use Rattle.its_types.specs.declared.machine.Word.{Word}
 use Rattle.its_plain.specs.History.{after, IsLegal}
 use Rattle.its_plain.specs.Plain.{Plain, maps_of}
 use Rattle.its_plain.specs.Saved.{words_of}
+use Rattle.its_steps.specs.MayCommit.{IsRight}
+use Rattle.its_steps.specs.Parts.{IsOfMachine}
 use Rattle.its_steps.specs.World.{View}
 use Rattle.its_turns.specs.Calls.{Stays}
 use Rattle.its_turns.specs.Told.{IsLone}
@@ -27,18 +31,49 @@ pub record HasSeen (v : View) (place : ℕ) (w : View) : Type 0 where
   pub place_is : length w.seen ≡ place
   pub still : IsLone v → w.seen ≡ v.seen
 
--- What is told is so of that state. Or another pass has a part that is needed; or there was no memory for it, where it wants some
+-- It didn't see it: another pass has a part that is needed; or there was no memory for it, where it wants some
+abbrev pub SeesNothing : Type 0 → View → View → Unseen → Type 0
+SeesNothing wants v w Busy = Stays v w × (¬ IsLone v)
+SeesNothing wants v w NoMemory = Stays v w × wants
+
+-- what is told is so of that state
 abbrev pub Sees : {T : Type 0} → Type 0 → (Plain → T → Type 0) → View → View → Result (Placed T) Unseen → Type 0
 Sees wants is v w (Ok p) = HasSeen v p.place w × is (after v.setup.start w.seen) p.reply
-Sees wants is v w (Err Busy) = Stays v w × (¬ IsLone v)
-Sees wants is v w (Err NoMemory) = Stays v w × wants
+Sees wants is v w (Err e) = SeesNothing wants v w e
+
+-- ---- with parts in hand
+
+-- it saw the state so, which is one of the machine and has in those parts what they owe
+pub record HasSeenBeside (v : View) (place : ℕ) (w : View) : Type 0 where
+  pub seen : HasSeen v place w
+  pub word : Word
+  pub machine : IsOfMachine v.setup (after v.setup.start w.seen)
+  pub right : AllByRecursion (IsRight v.setup word (after v.setup.start w.seen)) v.held
+
+-- what is told is so of that state
+abbrev pub SeesBeside : {T : Type 0} → Type 0 → (Plain → T → Type 0) → View → View → Result (Placed T) Unseen → Type 0
+SeesBeside wants is v w (Ok p) = HasSeenBeside v p.place w × is (after v.setup.start w.seen) p.reply
+SeesBeside wants is v w (Err e) = SeesNothing wants v w e
+
+-- ---- as a caller in another language is told it
 
 -- the number of what kept it from being seen
 abbrev pub unseen_code : Unseen → ℕ
 unseen_code Busy = codes.busy
 unseen_code NoMemory = codes.no_memory
 
--- ---- as a caller in another language is told it
+-- of what was seen, or wasn't
+abbrev pub seen_code : {T : Type 0} → Result (Placed T) Unseen → ℕ
+seen_code (Ok p) = codes.done
+seen_code (Err e) = unseen_code e
+
+abbrev pub seen_place : {T : Type 0} → Result (Placed T) Unseen → ℕ → ℕ
+seen_place (Ok p) place = p.place
+seen_place (Err e) place = place
+
+abbrev pub seen_out : {T : Type 0} → Result (Placed T) Unseen → T → T
+seen_out (Ok p) out = p.reply
+seen_out (Err e) out = out
 
 -- The number, the place, and what a list or a struct has afterwards. Where it is done, this is so of the state that the history up to the place leaves. Else
 -- place, list and struct are as they were

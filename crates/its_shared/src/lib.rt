@@ -29,6 +29,7 @@ mod port;
 mod register_calls;
 mod registers;
 mod step_calls;
+mod step_reads;
 mod stored_look;
 mod telling;
 #[cfg(test)]

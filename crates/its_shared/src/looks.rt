@@ -8,7 +8,8 @@ ghost use Rattle.its_plain.specs.Plain.{maps_of, pending_of};
 ghost use Rattle.its_shared.specs.Besides.{needed};
 ghost use Rattle.its_shared.specs.Knowing.{has_vcpu};
 ghost use Rattle.its_shared.specs.Seeing.{Shows, all_told, first_told, numbers_told};
-ghost use Rattle.its_shared.specs.Seeing.{unseen_code, written as tables};
+ghost use Rattle.its_shared.specs.Seeing.{seen_code, seen_out, seen_place, unseen_code};
+ghost use Rattle.its_shared.specs.Seeing.{written as tables};
 ghost use Rattle.step_views.specs.Destinations.{destination};
 
 use crate::port::Port;
@@ -57,10 +58,7 @@ pub fn pending(
     if !port.has_vcpu(vcpu) {
         return RANGE;
     }
-    match port.pending(alloc, vcpu as u16, list) {
-        Ok(placed) => counted(placed, place, count),
-        Err(unseen) => number_of(unseen),
-    }
+    told(port.pending(alloc, vcpu as u16, list), place, count)
 }
 
 /// What the LPI registers of a redistributor are restored from.
@@ -80,14 +78,7 @@ pub fn stored_lpi_registers(
     if !port.has_vcpu(vcpu) {
         return RANGE;
     }
-    match port.stored_lpi_registers(vcpu as u16) {
-        Ok(placed) => {
-            *place = placed.place;
-            *out = placed.reply;
-            DONE
-        }
-        Err(unseen) => number_of(unseen),
-    }
+    told(port.stored_lpi_registers(vcpu as u16), place, out)
 }
 
 /// The tables that a save writes.
@@ -104,10 +95,7 @@ pub fn written(
         port.old port.new result place.old place.new
         (list.old, count.old) (list.new, count.new) }
 {
-    match port.written(alloc, list) {
-        Ok(placed) => counted(placed, place, count),
-        Err(unseen) => number_of(unseen),
-    }
+    told(port.written(alloc, list), place, count)
 }
 
 /// The stretches of guest memory that the next step reads.
@@ -124,10 +112,7 @@ pub fn needs(
         port.old port.new result place.old place.new
         (list.old, count.old) (list.new, count.new) }
 {
-    match port.needs(alloc, list) {
-        Ok(placed) => counted(placed, place, count),
-        Err(unseen) => number_of(unseen),
-    }
+    told(port.needs(alloc, list), place, count)
 }
 
 /// The mapped devices from a DeviceID on.
@@ -143,10 +128,7 @@ pub fn devices(
         port.old port.new result place.old place.new
         (list.old, count.old) (list.new, count.new) }
 {
-    match port.devices(from, list) {
-        Ok(placed) => counted(placed, place, count),
-        Err(unseen) => number_of(unseen),
-    }
+    told(port.devices(from, list), place, count)
 }
 
 /// The mapped events of a device from an EventID on.
@@ -163,10 +145,7 @@ pub fn mappings(
         port.old port.new result place.old place.new
         (list.old, count.old) (list.new, count.new) }
 {
-    match port.mappings(device, from, list) {
-        Ok(placed) => counted(placed, place, count),
-        Err(unseen) => number_of(unseen),
-    }
+    told(port.mappings(device, from, list), place, count)
 }
 
 /// The mapped collections from a number on.
@@ -182,21 +161,23 @@ pub fn collections(
         port.old port.new result place.old place.new
         (list.old, count.old) (list.new, count.new) }
 {
-    match port.collections(from, list) {
-        Ok(placed) => counted(placed, place, count),
-        Err(unseen) => number_of(unseen),
-    }
+    told(port.collections(from, list), place, count)
 }
 
-// Of a list that was told.
-fn counted(placed: Placed<u64>, place: &mut u64, count: &mut u64) -> u32
-    ensures code { result ≡ codes.done }
-    ensures place { place.new ≡ placed.place }
-    ensures count { count.new ≡ placed.reply }
+// What was seen, and the place at which it is so; or why it wasn't seen.
+fn told<T: Copy>(seen: Result<Placed<T>, Unseen>, place: &mut u64, out: &mut T) -> u32
+    ensures code { result ≡ seen_code seen }
+    ensures place { place.new ≡ seen_place seen place.old }
+    ensures out { out.new ≡ seen_out seen out.old }
 {
-    *place = placed.place;
-    *count = placed.reply;
-    DONE
+    match seen {
+        Ok(placed) => {
+            *place = placed.place;
+            *out = placed.reply;
+            DONE
+        }
+        Err(unseen) => number_of(unseen),
+    }
 }
 
 fn number_of(unseen: Unseen) -> u32

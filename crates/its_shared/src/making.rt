@@ -17,6 +17,7 @@ use its_numbers::{
     RequestersIn, WindowIn, description, is_in_range, make_fault_out,
 };
 use its_plain::{Desc, MakeError};
+use its_types::Limits;
 use std::alloc::Global;
 use std::mem::replace;
 
@@ -77,6 +78,10 @@ pub extern "C" fn its_share(
         return NO_MEMORY;
     };
     desc.shards = 64;
+    desc.limits = Limits {
+        stamp_last: 255,
+        place_last: (1 << 56) - 1,
+    };
     match made(alloc, &desc) {
         Ok(made) => {
             *root = made;
@@ -95,9 +100,9 @@ fn made(alloc: Global, desc: &Desc) -> Result<Pass, MakeError>
     requires description { IsDescription desc.now }
     requires some_shards { 1 ≤ desc.now.shards }
     requires most_shards { desc.now.shards ≤ 64 }
-    requires stamps { desc.now.limits.stamp_last < 2 ^ 24 }
+    requires stamps { desc.now.limits.stamp_last < 2 ^ 8 }
+    requires places { desc.now.limits.place_last < 2 ^ 56 }
     requires one { length desc.now.translators ≡ 1 }
-    requires places { desc.now.limits.place_last < 2 ^ 40 }
     ensures made { IfOk result (λ p. IsShared desc.now p.known) }
     ensures refused { IfErr result (λ e. IsSharedFrom desc.now (Err e)) }
 {

@@ -1,9 +1,13 @@
 //! What is mapped, seen through a pass.
-ghost use Rattle.std.specs.Prelude.{◌≡◌, [], OnErr};
+ghost use Rattle.std.specs.Prelude.{◌≡◌, ◌∷◌, [], IfErr, IfOk, OnErr};
+ghost use Rattle.held_parts.specs.Wholes.{maps_held};
 ghost use Rattle.its_numbers.specs.Mapped.{collections_from, devices_from, mappings_from};
+ghost use Rattle.its_plain.specs.History.{after};
 ghost use Rattle.its_plain.specs.Plain.{maps_of};
+ghost use Rattle.its_steps.specs.World.{View};
 ghost use Rattle.its_turns.specs.Machines.{view, IsOf};
-ghost use Rattle.its_shared.specs.Seeing.{ListsFirst, Sees};
+ghost use Rattle.its_turns.specs.Told.{released};
+ghost use Rattle.its_shared.specs.Seeing.{HasSeen, ListsFirst, Sees, SeesNothing};
 
 use crate::unseen::Unseen;
 use its_numbers::{
@@ -11,6 +15,30 @@ use its_numbers::{
 };
 use its_turns::{Machine, Pass, Value, look, put, try_take_maps};
 use its_types::{Part, Placed};
+use owned_parts::Translator;
+
+// The maps, taken at the first try, and the place at which they are so.
+fn maps_now(machine: &Machine, pass: &mut Pass) -> Result<Placed<Box<Translator>>, Unseen>
+    requires of { IsOf machine.now pass.old }
+    requires free { (view pass.old).held ≡ [] }
+    ensures of { IsOf machine.now pass.new }
+    ensures held { IfOk result (λ p. (view pass.new).held ≡ maps_held 0 p.reply.value ∷ []) }
+    ensures seen { IfOk result (λ p. (w : View) → w ≡ released (view pass.new) →
+        HasSeen (view pass.old) p.place w × (maps_of
+        (after (view pass.old).setup.start w.seen) 0 ≡ p.reply.value.maps.maps)) }
+    ensures busy { IfErr result (λ e. ((view pass.new).held ≡ [])
+        × SeesNothing ⊥ (view pass.old) (view pass.new) e) }
+{
+    let maps = match try_take_maps(machine, pass, 0) {
+        Ok(maps) => maps,
+        Err(_) => return Err(Unseen::Busy),
+    };
+    let word = look(machine, pass);
+    Ok(Placed {
+        place: word.place,
+        reply: maps,
+    })
+}
 
 /// The mapped devices from a DeviceID on, by rising DeviceID: as many as the list takes, whose rest
 /// stays, and how many it has got. Takes the maps at the first try.
@@ -29,17 +57,10 @@ pub fn try_devices(
         (view pass.old) (view pass.new) result }
     ensures only { OnErr result (list.new ≡ list.old) }
 {
-    let maps = match try_take_maps(machine, pass, 0) {
-        Ok(maps) => maps,
-        Err(_) => return Err(Unseen::Busy),
-    };
-    let word = look(machine, pass);
-    let count = put_devices(&maps.maps, from, list);
+    let Placed { place, reply: maps } = maps_now(machine, pass)?;
+    let reply = put_devices(&maps.maps, from, list);
     put(machine, pass, Part::Maps(0), Value::Maps(maps));
-    Ok(Placed {
-        place: word.place,
-        reply: count,
-    })
+    Ok(Placed { place, reply })
 }
 
 /// The mapped events of a device from an EventID on, as the devices are told.
@@ -59,17 +80,10 @@ pub fn try_mappings(
         (view pass.old) (view pass.new) result }
     ensures only { OnErr result (list.new ≡ list.old) }
 {
-    let maps = match try_take_maps(machine, pass, 0) {
-        Ok(maps) => maps,
-        Err(_) => return Err(Unseen::Busy),
-    };
-    let word = look(machine, pass);
-    let count = put_mappings(&maps.maps, device, from, list);
+    let Placed { place, reply: maps } = maps_now(machine, pass)?;
+    let reply = put_mappings(&maps.maps, device, from, list);
     put(machine, pass, Part::Maps(0), Value::Maps(maps));
-    Ok(Placed {
-        place: word.place,
-        reply: count,
-    })
+    Ok(Placed { place, reply })
 }
 
 /// The mapped collections from a number on, as the devices are told.
@@ -88,15 +102,8 @@ pub fn try_collections(
         (view pass.old) (view pass.new) result }
     ensures only { OnErr result (list.new ≡ list.old) }
 {
-    let maps = match try_take_maps(machine, pass, 0) {
-        Ok(maps) => maps,
-        Err(_) => return Err(Unseen::Busy),
-    };
-    let word = look(machine, pass);
-    let count = put_collections(&maps.maps, from, list);
+    let Placed { place, reply: maps } = maps_now(machine, pass)?;
+    let reply = put_collections(&maps.maps, from, list);
     put(machine, pass, Part::Maps(0), Value::Maps(maps));
-    Ok(Placed {
-        place: word.place,
-        reply: count,
-    })
+    Ok(Placed { place, reply })
 }

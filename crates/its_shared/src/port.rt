@@ -47,9 +47,9 @@ impl Port {
         requires description { IsDescription desc.now }
         requires some_shards { 1 ≤ desc.now.shards }
         requires most_shards { desc.now.shards ≤ 64 }
-        requires stamps { desc.now.limits.stamp_last < 2 ^ 24 }
+        requires stamps { desc.now.limits.stamp_last < 2 ^ 8 }
+        requires places { desc.now.limits.place_last < 2 ^ 56 }
         requires one { length desc.now.translators ≡ 1 }
-        requires places { desc.now.limits.place_last < 2 ^ 40 }
         ensures { IsSharedFrom desc.now result }
     {
         requesters_are_apart();

@@ -34,6 +34,9 @@ const NUMBERS: DescriptionIn = DescriptionIn {
     cwriter: 0,
     baser0: 0,
     baser1: 0,
+    event_limit: u64::MAX,
+    device_limit: u64::MAX,
+    memory_limit: u64::MAX,
 };
 
 // 2 MiB.

@@ -1,10 +1,11 @@
 -- The machine of a script, for threads to share.
-use Rattle.std.proofs.Common.{rules, ◌≡◌, ◌^◌, ◌<◌, ◌≤◌, length}
+use Rattle.std.proofs.Common.{rules, arith, ◌≡◌, ◌^◌, ◌<◌, ◌≤◌, length}
 use Rattle.event_script.specs.Limits.{IsWithinLimits}
 use Rattle.event_script.specs.declared.script.Script.{Script}
 use Rattle.its_migrate.specs.Shared.{IsFirst}
 use Rattle.its_turns.specs.declared.machine.Machine.{Machine}
 use Rattle.its_turns.specs.declared.machine.Pass.{Pass}
+use Rattle.its_turns.specs.Words.{IsLong}
 use Rattle.its_top.specs.Played.{IsReady}
 
 -- it is ready for the script
@@ -32,5 +33,15 @@ module _ (script : Script) (within : IsWithinLimits script) where
   pub stamps_of_two : length script.desc.translators ≡ 2 → script.desc.limits.stamp_last < 4096
   stamps_of_two = search rules
 
-  pub places : script.desc.limits.place_last < 2 ^ 40
-  places = search rules
+  short : script.desc.limits.place_last < 2 ^ 40
+  short = search rules
+
+  pub places : script.desc.limits.place_last < 2 ^ 56
+  places = omega (arith, short)
+
+  -- a script's places have 40 bits
+  pub few_stamps : IsLong script.desc.limits → script.desc.limits.stamp_last < 2 ^ 8
+  few_stamps long = absurd (omega (arith, short, long))
+
+  pub alone : IsLong script.desc.limits → length script.desc.translators ≡ 1
+  alone long = absurd (omega (arith, short, long))

@@ -19,10 +19,10 @@ use Rattle.its_steps.proofs.Holders.{holders}
 use Rattle.its_steps.proofs.Steps.{pass}
 use Rattle.its_steps.proofs.Words.{keeps_commit, reader}
 use Rattle.its_turns.proofs.Homes.{St, turns_stay}
-use Rattle.its_turns.proofs.Looking.{sees, looks_in, later_word}
+use Rattle.its_turns.proofs.Looking.{sees, looks_in, later_word, reads}
 use Rattle.its_turns.specs.Rule.{Kept, world_of}
-use Rattle.its_turns.specs.Told.{committed_by, committing}
-use Rattle.its_turns.specs.Words.{unpacked, turns_in}
+use Rattle.its_turns.specs.Told.{Loses, committed_by, committing}
+use Rattle.its_turns.specs.Words.{unpacked, packing_of, turns_in}
 use Rattle.its_steps.specs.declared.commit.Commit.{Commit}
 use Rattle.its_turns.specs.declared.value.Value.{Value}
 
@@ -35,14 +35,14 @@ module _ (s : Setup) (slots id : ℕ) (me : Me Value View) (passes : me.0.standi
   to = word_after a
 
   -- the word is the one expected
-  wins : unpacked first ≡ a.expected → a.expected ≡ me.0.last → unpacked second ≡ word_after a → MayCall s a me.0.held
+  wins : unpacked (packing_of s.limits) first ≡ a.expected → a.expected ≡ me.0.last → unpacked (packing_of s.limits) second ≡ word_after a → MayCall s a me.0.held
       → (t : St) → Kept s t → get_elem? t.views id ≡ some me.0 → get_or t.words 0 0 ≡ first → Done (get_or t.words 0 0) second t
   wins first_is last second_is may t kp at hit =
       let n : ℕ = get_or t.words 0 0 in
       let w : World = world_of s t in
       let h : List Entry = kp.history in
       let fits = pass s h w kp.good id me.0 at passes in
-      let now : w.word ≡ a.expected = ap unpacked hit ∙ first_is in
+      let now : w.word ≡ a.expected = ap (unpacked (packing_of s.limits)) hit ∙ first_is in
       let seen : me.0.seen ≡ h = (reader s h w kp.good id me.0 at passes (ap (λ (x : Word). x.place) (sym (now ∙ last)))).1 in
       let owed : List Held = renewal s a me.0.held in
       let v1 : View = committed me.0 h a owed in
@@ -56,7 +56,7 @@ module _ (s : Setup) (slots id : ℕ) (me : Me Value View) (passes : me.0.standi
       let new_word : get_or (set t.words 0 second) 0 0 ≡ second = get_or-set_same t.words 0 second 0 (omega (arith, kp.wide)) in
       let new_turns : turns_in (set t.words 0 second) (part_count s) ≡ w.turns = turns_stay t.words (part_count s) second in
       let worlds : world_of s (stepped t 0 second id me.1 v' keeps) ≡ record w { word = to; views = set w.views id v' } =
-      λ d. record { word = (ap unpacked new_word ∙ second_is) d; turns = new_turns d; slots = w.slots; views = set t.views id v' } in
+      λ d. record { word = (ap (unpacked (packing_of s.limits)) new_word ∙ second_is) d; turns = new_turns d; slots = w.slots; views = set t.views id v' } in
       let legal : IsLegal me.0.setup.start v'.seen = subst (λ (x : Setup × List Entry). IsLegal x.0.start x.1) (λ d. (sym fits.setup d, sym seen d ++ e ∷ []))
       good'.history.legal in (
         v',
@@ -74,20 +74,25 @@ module _ (s : Setup) (slots id : ℕ) (me : Me Value View) (passes : me.0.standi
       )
 
   -- it is another
-  loses : unpacked first ≡ a.expected → (t : St) → Kept s t → get_elem? t.views id ≡ some me.0 → get_or t.words 0 0 ≢ first
+  loses : unpacked (packing_of s.limits) first ≡ a.expected → (t : St) → Kept s t → get_elem? t.views id ≡ some me.0 → get_or t.words 0 0 ≢ first
       → Done (get_or t.words 0 0) (get_or t.words 0 0) t
   loses first_is t kp at other =
       let n : ℕ = get_or t.words 0 0 in
-      let later : a.expected ≡ me.0.last → (a.expected.place < (unpacked n).place) × _ = λ is. let z = later_word s slots id me passes t kp at first other
-      (first_is ∙ is) in (subst (λ (x : Word). x.place < (unpacked n).place) (sym is) z.0, z.1) in (
-        loaded me.0 (unpacked n) kp.history,
+      let later : a.expected ≡ me.0.last → (a.expected.place < (unpacked (packing_of s.limits) n).place) × _ = λ is. let z = later_word s slots id me passes t kp at first other
+      (first_is ∙ is) in (subst (λ (x : Word). x.place < (unpacked (packing_of s.limits) n).place) (sym is) z.0, z.1) in (
+        loaded me.0 (unpacked (packing_of s.limits) n) kp.history,
         keeps,
         tt,
         looks_in s slots id me passes t kp at n refl,
-        (refl, (λ e. absurd (other e)), (λ _. record { looks = sees s slots id me passes t kp at; later = later })),
+        (
+          refl,
+          (λ e. absurd (other e)),
+          (λ _. subst (λ (x : Word). Loses me.0 a x (loaded me.0 (unpacked (packing_of s.limits) n) kp.history)) (reads s slots id me passes t kp at)
+              record { looks = sees s slots id me passes t kp at; later = later }),
+        ),
       )
 
-  pub allows_commit : unpacked first ≡ a.expected → a.expected ≡ me.0.last → unpacked second ≡ word_after a → MayCall s a me.0.held
+  pub allows_commit : unpacked (packing_of s.limits) first ≡ a.expected → a.expected ≡ me.0.last → unpacked (packing_of s.limits) second ≡ word_after a → MayCall s a me.0.held
       → Allows (Kept s) slots id me 0 (λ n. either (eqb n first) second n) (committing a (step slots 0 first second none) me)
   allows_commit first_is last second_is may t kp deep at small =
       let n : ℕ = get_or t.words 0 0 in

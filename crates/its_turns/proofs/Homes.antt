@@ -15,7 +15,7 @@ use Rattle.its_steps.proofs.Indexes.{index_below}
 use Rattle.its_turns.proofs.Spaced.{spaced_long, spaced_at, spaced_before, spaced_set, at_place, at_item}
 use Rattle.its_turns.specs.Contents.{content_of, IsFit, shelved}
 use Rattle.its_turns.specs.Rule.{Kept, world_of}
-use Rattle.its_turns.specs.Words.{unpacked, spaced, turns_in, slots_in}
+use Rattle.its_turns.specs.Words.{unpacked, packing_of, spaced, turns_in, slots_in}
 use Rattle.its_turns.specs.declared.value.Value.{Value}
 
 abbrev pub St : Type 0
@@ -114,7 +114,7 @@ module _ (s : Setup) (p : Part) (st : Stands s p) where
       let first : get_or (set t.words (turn_word k) x) 0 0 ≡ get_or t.words 0 0 = get_or-set_other t.words (turn_word k) 0 x 0 (λ e. absurd (omega arith)) in
       let turns = turns_after t kp x in
       let slots = slot_set t.homes (part_count s) k o inside (in_homes t kp) in
-      λ d. record { word = unpacked (first d); turns = turns d; slots = slots d; views = set t.views id v }
+      λ d. record { word = unpacked (packing_of s.limits) (first d); turns = turns d; slots = slots d; views = set t.views id v }
 
   -- and no other turn
   pub turn_other : (t : St) → Kept s t → (x j n : ℕ) → j ≢ k → get_or (turns_in (set t.words (turn_word k) x) (part_count s)) j 0 ≡ suc n

@@ -24,12 +24,15 @@ use Rattle.its_steps.proofs.Passes.{knows}
 use Rattle.its_steps.proofs.Steps.{pass}
 use Rattle.its_turns.proofs.Homes.{St}
 use Rattle.its_turns.specs.Rule.{Kept, world_of}
-use Rattle.its_turns.specs.Told.{Looks, IsLastOrLater, looking, IsLone, is_joined, are_joined, KnowsOthers}
-use Rattle.its_turns.specs.Words.{unpacked}
+use Rattle.its_turns.specs.Told.{Looks, IsLastOrLater, looking, read_by, IsLone, is_joined, are_joined, KnowsOthers}
+use Rattle.its_turns.specs.Words.{unpacked, packing_of}
 use Rattle.its_turns.specs.declared.value.Value.{Value}
+use Rattle.its_turns.specs.declared.word.Packing.{Packing}
+use Rattle.its_turns.specs.declared.word.Packing.TheVariants.{Place40, Place56}
 
-unpacked_same : (a b : ℕ) → unpacked a ≡ unpacked b → a ≡ b
-unpacked_same a b e = sym (div-add-mod' a (2 ^ 40)) ∙ (ap (λ (w : Word). w.stamp * 2 ^ 40 + w.place) e ∙ div-add-mod' b (2 ^ 40))
+unpacked_same : (p : Packing) (a b : ℕ) → unpacked p a ≡ unpacked p b → a ≡ b
+unpacked_same Place40 a b e = sym (div-add-mod' a (2 ^ 40)) ∙ (ap (λ (w : Word). w.stamp * 2 ^ 40 + w.place) e ∙ div-add-mod' b (2 ^ 40))
+unpacked_same Place56 a b e = sym (div-add-mod' a (2 ^ 56)) ∙ (ap (λ (w : Word). w.stamp * 2 ^ 56 + w.place) e ∙ div-add-mod' b (2 ^ 56))
 
 -- ---- the passes that were joined
 
@@ -56,10 +59,14 @@ module _ (s : Setup) (slots id : ℕ) (me : Me Value View) (passes : me.0.standi
     w = world_of s t
 
     abbrev here : Word
-    here = unpacked (get_or t.words 0 0)
+    here = unpacked (packing_of s.limits) (get_or t.words 0 0)
 
     pub is_pass : IsPass s h w.word w.turns w.slots kp.good.seat kp.good.root id me.0
     is_pass = pass s h w kp.good id me.0 at passes
+
+    -- the pass reads it as the machine has packed it
+    pub reads : here ≡ read_by me.0 (get_or t.words 0 0)
+    reads = ap (λ (x : Setup). unpacked (packing_of x.limits) (get_or t.words 0 0)) (sym is_pass.setup)
 
     -- the root, where it is alone, has read the word
     pub reads_last : IsLone me.0 → (me.0.last ≡ here) × (me.0.seen ≡ h) × ((p : Part) (n : ℕ) → Stands s p → turn_of s w.turns p ≡ suc n → n ≡ 0)
@@ -100,14 +107,17 @@ module _ (s : Setup) (slots id : ℕ) (me : Me Value View) (passes : me.0.standi
       λ a. differ (sym (reads_last a).0),
     )
 
-    pub later_word : (first : ℕ) → get_or t.words 0 0 ≢ first → unpacked first ≡ me.0.last → (me.0.last.place < here.place) × ¬ IsLone me.0
-    later_word first ne is = last_or_later (λ e. ne (unpacked_same (get_or t.words 0 0) first (e ∙ sym is)))
+    pub later_word : (first : ℕ) → get_or t.words 0 0 ≢ first → unpacked (packing_of s.limits) first ≡ me.0.last → (me.0.last.place < here.place) × ¬ IsLone me.0
+    later_word first ne is = last_or_later (λ e. ne (unpacked_same (packing_of s.limits) (get_or t.words 0 0) first (e ∙ sym is)))
+
+  abbrev looked : (t : St) → Kept s t → View
+  looked t kp = loaded me.0 (unpacked (packing_of s.limits) (get_or t.words 0 0)) kp.history
 
   pub allows_look : Allows (Kept s) slots id me 0 (λ n. n) (looking (step slots 0 0 0 none) me)
   allows_look t kp deep at small = (
-    loaded me.0 (unpacked (get_or t.words 0 0)) kp.history,
+    looked t kp,
     keeps,
     tt,
     looks_in t kp at (get_or t.words 0 0) refl,
-    (refl, sees t kp at, last_or_later t kp at),
+    (refl, subst (λ (w : Word). Looks me.0 w (looked t kp)) (reads t kp at) (sees t kp at), subst (IsLastOrLater me.0) (reads t kp at) (last_or_later t kp at)),
   )

@@ -26,7 +26,9 @@ use Rattle.its_turns.specs.declared.value.Value.TheVariants.{Vacant}
 use Rattle.its_turns.specs.Contents.{content_of, IsFit, shelved}
 use Rattle.its_turns.specs.Opening.{setup_from, AreMaps, AreFirst, apart, first_words}
 use Rattle.its_turns.specs.Rule.{Kept, world_of}
-use Rattle.its_turns.specs.Words.{unpacked, spaced, turns_in, slots_in}
+use Rattle.its_turns.specs.declared.word.Packing.{Packing}
+use Rattle.its_turns.specs.declared.word.Packing.TheVariants.{Place40, Place56}
+use Rattle.its_turns.specs.Words.{unpacked, packing_of, spaced, turns_in, slots_in}
 
 zeros_at : (n k : ℕ) → get_or {A = ℕ} (replicate n 0) k 0 ≡ 0
 zeros_at zero k = refl
@@ -87,13 +89,18 @@ one_more_apart xs x slots more so_far is = is ∙ (ap (λ (l : List Value). l ++
 pub values_long : (s : Setup) (values : List Value) → IsSound s.start → AreFirst s values → length values ≡ part_count s
 values_long s values sound are = sym (length-map values content_of) ∙ (ap (λ (l : List (Option Content)). length l) are.contents ∙ slots_long s sound)
 
+unpacked_zero : (p : Packing) → unpacked p 0 ≡ first_word
+unpacked_zero Place40 = refl
+unpacked_zero Place56 = refl
+
 pub opens : (s : Setup) (values : List Value) → IsSound s.start → AreFirst s values
     → Kept s (opening (first_words (part_count s)) (apart values) (first_view s))
 opens s values sound are =
     let n : ℕ = part_count s in
     let m : ℕ = 16 * (n + 1) in
     let long : length values ≡ n = values_long s values sound are in
-    let word : unpacked (get_or (first_words n) 0 0) ≡ first_word = ap unpacked (zeros_at m 0) in
+    let word : unpacked (packing_of s.limits) (get_or (first_words n) 0 0) ≡ first_word =
+    ap (unpacked (packing_of s.limits)) (zeros_at m 0) ∙ unpacked_zero (packing_of s.limits) in
     let turns = zero_turns m 1 n in
     let slots : slots_in (map some (apart values)) n ≡ first_slots s =
     ap (λ (k : ℕ). slots_in (map some (apart values)) k) (sym long) ∙ (ap (map shelved) (first_of_each values) ∙ (all_shelved values ∙ are.contents)) in

@@ -1,12 +1,18 @@
 -- The stamps of translators in a word, as it is packed.
-use Rattle.std.proofs.Common.{◌≡◌, ◌≢◌, ℕ, ◌+◌, ◌*◌, ◌/◌, ◌%◌, ◌^◌, ◌<◌, ◌≤◌, ap, sym, ◌∙◌, subst, arith, inl, inr}
+use Rattle.std.proofs.Common.{◌≡◌, ◌≢◌, ℕ, ◌+◌, ◌*◌, ◌/◌, ◌%◌, ◌^◌, ◌<◌, ◌≤◌, Bool, ap, sym, ◌∙◌, subst, arith, inl, inr, lt-ltb, le-ltb}
+use Rattle.std.proofs.lemmas.Bool.{cases_lt}
+use Rattle.std.specs.Prelude.{if◌then◌else◌}
 use mathlib.Core.Logic.{dite}
 use native.Mathlib.Decide.{ℕ_discrete}
 use Rattle.its_types.specs.declared.machine.Word.{Word}
 use Rattle.its_steps.specs.Parts.{Setup, HasStamps, translator_count, stamp_at, stamp_with, stamp_of}
 use Rattle.its_steps.proofs.Stamps.{of_one, with_one, are_apart}
 use Rattle.its_plain.specs.declared.desc.Desc.{Desc}
+use Rattle.its_types.specs.declared.machine.Limits.{Limits}
 use Rattle.its_turns.specs.Machines.{setup, AreWithin}
+use Rattle.its_turns.specs.Words.{HaveRoom, IsRoomFor, packing_of}
+use Rattle.its_turns.specs.declared.word.Packing.{Packing}
+use Rattle.its_turns.specs.declared.word.Packing.TheVariants.{Place40, Place56}
 use Rattle.its_turns.specs.declared.machine.Machine.{Machine}
 
 first_of_two : (n stamp : ℕ) → n ≡ 2 → stamp_at n stamp 0 ≡ stamp / 4096
@@ -41,24 +47,51 @@ pub low_stamps : (s : Setup) → HasStamps s → translator_count s ≡ 2 → s.
 low_stamps s (inl one) two = absurd (omega (arith, one, two))
 low_stamps s (inr both) two = both.1
 
-pub low_last : (m : Machine) → (setup m).limits.stamp_last < 2 ^ 24
-low_last m = subst (λ (d : Desc). d.limits.stamp_last < 2 ^ 24) m.described m.small.4
+-- a machine's last stamp and last place have room, and its word is packed so
+pub room_of : (m : Machine) → HaveRoom (setup m).limits (translator_count (setup m))
+room_of m = subst (λ (x : Limits × ℕ). HaveRoom x.0 x.1) (λ d. ((m.described d).limits, sym m.laid.0 d)) m.room
+
+pub packed_by : (m : Machine) → m.packing ≡ packing_of (setup m).limits
+packed_by m = m.packed ∙ ap (λ (d : Desc). packing_of d.limits) m.described
 
 -- the shards of all translators
 pub few_shards : (s : Setup) → HasStamps s → s.shards ≤ 64 → translator_count s * s.shards ≤ 128
 few_shards s (inl one) most = let e : translator_count s * s.shards ≡ 1 * s.shards = ap (λ (n : ℕ). n * s.shards) one in omega (arith, e, most)
 few_shards s (inr two) most = let e : translator_count s * s.shards ≡ 2 * s.shards = ap (λ (n : ℕ). n * s.shards) two.0 in omega (arith, e, most)
 
--- a word whose stamps are all within has room for them
-pub has_room : (s : Setup) (w : Word) → HasStamps s → s.limits.stamp_last < 2 ^ 24 → AreWithin s w → w.stamp < 2 ^ 24
-has_room s w (inl one) most within =
+-- the stamp of one translator is the word's
+stamp_of_one : (s : Setup) (w : Word) → translator_count s ≡ 1 → AreWithin s w → w.stamp ≤ s.limits.stamp_last
+stamp_of_one s w one within =
     let e : stamp_of s w 0 ≡ w.stamp = of_one (translator_count s) w.stamp 0 one in
     let le : stamp_of s w 0 ≤ s.limits.stamp_last = within 0 (omega (arith, one)) in
-    omega (arith, e, le, most)
-has_room s w (inr two) most within =
+    omega (arith, e, le)
+
+-- stamps that are all within have 24 bits
+low_stamp : (s : Setup) (w : Word) → HasStamps s → s.limits.stamp_last < 2 ^ 24 → AreWithin s w → w.stamp < 2 ^ 24
+low_stamp s w (inl one) most within = let le = stamp_of_one s w one within in omega (arith, le, most)
+low_stamp s w (inr two) most within =
     let e : stamp_of s w 0 ≡ w.stamp / 4096 = first_of_two (translator_count s) w.stamp two.0 in
     let le : stamp_of s w 0 ≤ s.limits.stamp_last = within 0 (omega (arith, two.0)) in
     omega (arith, e, le, two.1)
+
+packed_40 : (l : Limits) → l.place_last < 2 ^ 40 → packing_of l ≡ Place40
+packed_40 l low = ap (λ (b : Bool). if b then Place40 else Place56) (lt-ltb l.place_last (2 ^ 40) low)
+
+packed_56 : (l : Limits) → 2 ^ 40 ≤ l.place_last → packing_of l ≡ Place56
+packed_56 l high = ap (λ (b : Bool). if b then Place40 else Place56) (le-ltb l.place_last (2 ^ 40) high)
+
+-- a word whose stamps are all within, and its place, has room for them
+pub has_room : (s : Setup) (w : Word) → HasStamps s → HaveRoom s.limits (translator_count s) → AreWithin s w → w.place ≤ s.limits.place_last
+    → IsRoomFor (packing_of s.limits) w
+has_room s w has room within place =
+    elim (cases_lt s.limits.place_last (2 ^ 40)) [
+      | inl low ↦ subst (λ (p : Packing). IsRoomFor p w) (sym (packed_40 s.limits low)) (low_stamp s w has room.stamps within, omega (arith, place, low))
+      | inr long ↦
+          let le = stamp_of_one s w (room.alone long) within in
+          let few = room.few_stamps long in
+          let most = room.places in
+          subst (λ (p : Packing). IsRoomFor p w) (sym (packed_56 s.limits long)) (omega (arith, le, few), omega (arith, place, most))
+    ]
 
 -- where a translator gets another stamp that may be, all are within still
 pub within_with : (s : Setup) (w : Word) (its stamp place : ℕ) → HasStamps s → its < translator_count s → stamp ≤ s.limits.stamp_last → AreWithin s w

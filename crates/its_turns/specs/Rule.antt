@@ -9,7 +9,7 @@ use Rattle.its_steps.specs.Parts.{Setup, part_count}
 use Rattle.its_steps.specs.World.{View, World}
 use Rattle.its_turns.specs.Contents.{IsFit}
 use Rattle.its_turns.specs.Opening.{setup_from}
-use Rattle.its_turns.specs.Words.{unpacked, turns_in, slots_in}
+use Rattle.its_turns.specs.Words.{unpacked, packing_of, turns_in, slots_in}
 use Rattle.its_turns.specs.declared.law.Origin.{Origin}
 use Rattle.its_turns.specs.declared.value.Value.{Value}
 
@@ -20,7 +20,7 @@ setup_of o = setup_from o.desc.value o.parts.value
 -- the world that a table shows
 abbrev pub world_of : Setup → State Value View → World
 world_of s t = record {
-  word = unpacked (slice_index t.words 0);
+  word = unpacked (packing_of s.limits) (slice_index t.words 0);
   turns = turns_in t.words (part_count s);
   slots = slots_in t.homes (part_count s);
   views = t.views;

@@ -19,7 +19,7 @@ use Rattle.its_steps.specs.MayCommit.{IsRight}
 use Rattle.its_steps.specs.Laws.{IsAlone}
 use Rattle.its_steps.specs.Renewal.{renewal}
 use Rattle.its_turns.specs.Contents.{content_of, IsFit, held_before}
-use Rattle.its_turns.specs.Words.{unpacked}
+use Rattle.its_turns.specs.Words.{unpacked, packing_of}
 use Rattle.its_steps.specs.declared.commit.Commit.{Commit}
 use Rattle.its_turns.specs.declared.value.Value.{Value}
 
@@ -69,8 +69,12 @@ pub record Looks (v : View) (w : Word) (v' : View) : Type 0 where
 abbrev pub IsLastOrLater : View → Word → Type 0
 IsLastOrLater v w = w ≢ v.last → (v.last.place < w.place) × ¬ IsLone v
 
+-- the word that a number is to the pass
+abbrev pub read_by : View → ℕ → Word
+read_by v n = unpacked (packing_of v.setup.limits) n
+
 abbrev pub looking : Step Value → Sat → ℕ → Sat → Type 0
-looking st m n m' = (m'.1 ≡ m.1) × Looks m.0 (unpacked n) m'.0 × IsLastOrLater m.0 (unpacked n)
+looking st m n m' = (m'.1 ≡ m.1) × Looks m.0 (read_by m.0 n) m'.0 × IsLastOrLater m.0 (read_by m.0 n)
 
 -- ---- turns
 
@@ -127,4 +131,4 @@ pub record Loses (v : View) (a : Commit) (w : Word) (v' : View) : Type 0 where
   pub later : a.expected ≡ v.last → (a.expected.place < w.place) × ¬ IsLone v
 
 abbrev pub committing : Commit → Step Value → Sat → ℕ → Sat → Type 0
-committing a st m n m' = (m'.1 ≡ m.1) × (n ≡ st.first → Commits m.0 a m'.0) × (n ≢ st.first → Loses m.0 a (unpacked n) m'.0)
+committing a st m n m' = (m'.1 ≡ m.1) × (n ≡ st.first → Commits m.0 a m'.0) × (n ≢ st.first → Loses m.0 a (read_by m.0 n) m'.0)

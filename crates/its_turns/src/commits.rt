@@ -7,7 +7,7 @@ ghost use Rattle.its_steps.specs.World.{word_after};
 ghost use Rattle.its_turns.specs.Machines.{setup, view, IsOf, AreWithin};
 ghost use Rattle.its_turns.specs.Steps.{IsRaced};
 ghost use Rattle.its_turns.specs.Told.{Commits, committing};
-ghost use Rattle.its_turns.specs.Words.{unpacked};
+ghost use Rattle.its_turns.specs.Words.{unpacked, packing_of};
 
 use crate::law::{Announces, Exchange};
 use crate::machine::{Machine, Pass};
@@ -41,11 +41,12 @@ pub fn commit(machine: &Machine, pass: &mut Pass, commit: &Commit) -> Result<u64
         (λ raced. IsRaced (view pass.old) commit.now.expected raced (view pass.new)) }
 {
     let expected = commit.expected;
-    let old = pack(expected);
-    let new = pack(Word {
+    let old = pack(machine.packing, expected);
+    let next = Word {
         stamp: commit.stamp,
         place: expected.place + 1,
-    });
+    };
+    let new = pack(machine.packing, next);
     // `Brand` stands for this commit.
     let found = exchange::<Brand>(machine, pass, old, new, commit);
     if found == old {
@@ -53,7 +54,7 @@ pub fn commit(machine: &Machine, pass: &mut Pass, commit: &Commit) -> Result<u64
     } else {
         Err(Raced {
             expected,
-            found: unpack(found),
+            found: unpack(machine.packing, found),
         })
     }
 }
@@ -68,8 +69,10 @@ fn exchange<A: Announces>(
     requires of { IsOf machine.now pass.old }
     requires what { A.what ≡ commit.now }
     requires last { commit.now.expected ≡ (view pass.old).last }
-    requires old { unpacked old ≡ commit.now.expected }
-    requires new { unpacked new ≡ word_after commit.now }
+    requires old { unpacked (packing_of (setup machine.now).limits) old
+        ≡ commit.now.expected }
+    requires new { unpacked (packing_of (setup machine.now).limits) new
+        ≡ word_after commit.now }
     requires may { MayCall (setup machine.now) commit.now (view pass.old).held }
     ensures of { IsOf machine.now pass.new }
     ensures tells { committing commit.now

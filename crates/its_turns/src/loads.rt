@@ -1,7 +1,7 @@
 //! Loads of the word.
 ghost use Rattle.std.specs.Prelude.{◌≡◌};
 ghost use Rattle.its_steps.specs.declared.standing.Standing.TheVariants as standing;
-ghost use Rattle.its_turns.specs.Machines.{view, IsOf};
+ghost use Rattle.its_turns.specs.Machines.{setup, view, IsOf};
 ghost use Rattle.its_turns.specs.Told.{Looks, IsLastOrLater};
 
 use crate::law::{Known, Look};
@@ -24,10 +24,11 @@ pub fn look(machine: &Machine, pass: &mut Pass) -> Word
 pub(crate) fn load(machine: &Machine, seat: &mut Seat<Value, Known>) -> Word
     requires of { seat.old.table_id ≡ machine.now.table.shared.table_id }
     requires live { seat.old.me.0.standing ≡ standing.Pass }
+    requires setup { seat.old.me.0.setup ≡ setup machine.now }
     ensures of { seat.new.table_id ≡ seat.old.table_id }
     ensures hand { seat.new.me.1 ≡ seat.old.me.1 }
     ensures looks { Looks seat.old.me.0 result seat.new.me.0 }
     ensures later { IsLastOrLater seat.old.me.0 result }
 {
-    unpack(machine.table.shared.load::<Look>(seat, 0))
+    unpack(machine.packing, machine.table.shared.load::<Look>(seat, 0))
 }

@@ -9,9 +9,11 @@ ghost use Rattle.its_turns.specs.Contents.{emptied};
 ghost use Rattle.its_turns.specs.Opening.{kept_of};
 ghost use Rattle.its_turns.specs.Rule.{setup_of};
 ghost use Rattle.its_turns.specs.Told.{are_joined};
+ghost use Rattle.its_turns.specs.Words.{HaveRoom, packing_of};
 
 use crate::law::{Known, Law, Origin};
 use crate::value::Value;
+use crate::word::Packing;
 use atomic_table::{Seat, Table};
 use its_plain::{Desc, Layout};
 use std::alloc::Global;
@@ -32,6 +34,8 @@ pub struct Machine {
     pub(crate) first_pend: usize,
     // How far above its lowest bit the word's stamp has that of translator 0.
     pub(crate) first_shift: u8,
+    // How stamp and place share the word.
+    pub(crate) packing: Packing,
     pub ghost described: { desc ≡ kept_of table.shared.key.desc.value },
     pub ghost built: { (layout ≡ (setup_of table.shared.key).start.layout)
         × (layout_of desc ≡ layout) },
@@ -47,8 +51,9 @@ pub struct Machine {
         × (first_pend + vcpu_count (setup_of table.shared.key)
         ≡ part_count (setup_of table.shared.key)) × (first_conf ≤ 131) },
     pub ghost shifted: { first_shift + 12 ≡ 12 * translators },
-    pub ghost small: { (1 ≤ desc.shards) × (desc.shards ≤ 64) × (desc.shape.vcpus ≤ most_vcpus)
-        × (desc.limits.place_last < 2 ^ 40) × (desc.limits.stamp_last < 2 ^ 24) },
+    pub ghost small: { (1 ≤ desc.shards) × (desc.shards ≤ 64) × (desc.shape.vcpus ≤ most_vcpus) },
+    pub ghost room: { HaveRoom desc.limits (length desc.translators) },
+    pub ghost packed: { packing ≡ packing_of desc.limits },
 }
 
 /// The token with which one thread makes calls. The root is the pass numbered 0.

@@ -13,11 +13,13 @@ ghost use Rattle.its_turns.specs.Opening.{AreSlots};
 ghost use Rattle.its_turns.specs.Rule.{Kept, setup_of};
 ghost use Rattle.atomic_table.specs.Table.{opening};
 ghost use Rattle.its_turns.specs.Machines.{setup, view, IsOf};
+ghost use Rattle.its_turns.specs.Words.{IsLong};
 ghost use Rattle.its_turns.specs.declared.value.Value.TheVariants.{Vacant};
 
 use crate::law::{Known, Law, Origin};
 use crate::machine::{Machine, Pass, Root};
 use crate::value::{GuestMemory, Value};
+use crate::word::packing_of;
 use atomic_table::{Seat, Table};
 use gicr_regs::GicrValues;
 use guest_windows::Spare;
@@ -42,7 +44,9 @@ impl Machine {
         requires most_shards { desc.now.shards ≤ 64 }
         requires vcpus { desc.now.shape.vcpus ≤ most_vcpus }
         requires stamps { desc.now.limits.stamp_last < 2 ^ 24 }
-        requires places { desc.now.limits.place_last < 2 ^ 40 }
+        requires places { desc.now.limits.place_last < 2 ^ 56 }
+        requires few_stamps { IsLong desc.now.limits → desc.now.limits.stamp_last < 2 ^ 8 }
+        requires alone { IsLong desc.now.limits → length desc.now.translators ≡ 1 }
         requires translators { length desc.now.translators
             ≡ length (translators_of parts.first parts.second) }
         requires apart { HasStamps (setup_from desc.now parts) }
@@ -76,6 +80,7 @@ impl Machine {
                 first_conf,
                 first_pend,
                 first_shift: 12 * (translators - 1),
+                packing: packing_of(desc.limits),
             },
             Pass {
                 number: 0,

@@ -1,22 +1,50 @@
-//! The word that commits exchange, as one number: 24 bits of stamp over 40 bits of place.
-ghost use Rattle.std.specs.Prelude.{◌≡◌, ◌^◌, ◌<◌};
-ghost use Rattle.its_turns.specs.Words.{unpacked};
+//! The word that commits exchange, as one number: a stamp over a place.
+ghost use Rattle.std.specs.Prelude.{◌≡◌};
+ghost use Rattle.its_turns.specs.Words as spec;
 
-use its_types::Word;
+use its_types::{Limits, Word};
 
-pub(crate) fn unpack(word: u64) -> Word
-    ensures { result ≡ unpacked word }
+/// How many bits of the word the stamp has, and how many the place.
+#[derive(Clone, Copy)]
+pub(crate) enum Packing {
+    /// 24 and 40.
+    Place40,
+    /// 8 and 56.
+    Place56,
+}
+
+/// The packing of a machine: its place has 40 bits, where its last one fits in them.
+pub(crate) fn packing_of(limits: Limits) -> Packing
+    ensures { result ≡ spec.packing_of limits }
 {
-    Word {
-        stamp: (word >> 40) as u32,
-        place: word & 0xff_ffff_ffff,
+    if limits.place_last < 1 << 40 {
+        Packing::Place40
+    } else {
+        Packing::Place56
     }
 }
 
-pub(crate) fn pack(word: Word) -> u64
-    requires stamp { word.stamp < 2 ^ 24 }
-    requires place { word.place < 2 ^ 40 }
-    ensures { unpacked result ≡ word }
+pub(crate) fn unpack(packing: Packing, word: u64) -> Word
+    ensures { result ≡ spec.unpacked packing word }
 {
-    (word.stamp as u64) << 40 | word.place
+    match packing {
+        Packing::Place40 => Word {
+            stamp: (word >> 40) as u32,
+            place: word & 0xff_ffff_ffff,
+        },
+        Packing::Place56 => Word {
+            stamp: (word >> 56) as u32,
+            place: word & 0xff_ffff_ffff_ffff,
+        },
+    }
+}
+
+pub(crate) fn pack(packing: Packing, word: Word) -> u64
+    requires { spec.IsRoomFor packing word }
+    ensures { spec.unpacked packing result ≡ word }
+{
+    match packing {
+        Packing::Place40 => (word.stamp as u64) << 40 | word.place,
+        Packing::Place56 => (word.stamp as u64) << 56 | word.place,
+    }
 }

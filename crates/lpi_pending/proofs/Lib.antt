@@ -12,6 +12,7 @@ pub mod Nexts
 pub mod Tables
 pub mod FirstOfBoth
 pub mod Bests
+pub mod FirstOfAll
 pub mod AskedBases
 pub mod Zeros
 pub mod TurnedOn

@@ -116,26 +116,31 @@ module _ (old new : Parts) (w : Plain) (m : IsMachine old) (same : new.layout �
       ((redists.0 v c.0 c.1).same ∙ ap (λ (o : Option Conf). Some (conf_or o)) (sym c.1))
       ((redists.1 v q.0 q.1).same ∙ ap (λ (o : Option Pend). Some (pend_or o)) (sym q.1))
 
-  state_is : translators_of new.first new.second ≡ w.translators → new.memory ≡ w.memory → new.track ≡ w.track → IsSound w → state_of_parts new ≡ w
-  state_is translators memory track sound =
+  state_is : translators_of new.first new.second ≡ w.translators → new.memory ≡ w.memory → new.track ≡ w.track
+      → length w.redistributors ≡ w.layout.shape.vcpus → state_of_parts new ≡ w
+  state_is translators memory track vcpus =
       let n = old.layout.shape.vcpus in
       let ts = translators_of new.first new.second in
-      let many : length w.redistributors ≡ n = sound.vcpus ∙ ap (λ (l : Layout). l.shape.vcpus) (sym layout) in
+      let many : length w.redistributors ≡ n = vcpus ∙ ap (λ (l : Layout). l.shape.vcpus) (sym layout) in
       ap (λ (l : Layout). state_of l ts new.memory new.track new.redists) same
       ∙ same_state old.layout w.layout ts w.translators (redistributors_in n new.redists) w.redistributors new.memory w.memory new.track w.track
       layout translators (hand_is n new.redists w.redistributors there many) memory track
 
+  -- where the parts are those of a sound state
+  pub go_sound : translators_of new.first new.second ≡ w.translators → new.memory ≡ w.memory → new.track ≡ w.track
+      → length w.redistributors ≡ w.layout.shape.vcpus → IsSound (state_of_parts new) → GoesOn new w
+  go_sound translators memory track vcpus sound = record {
+    state = state_is translators memory track vcpus;
+    whole = record {
+      sound = sound;
+      all_in_hand = subst (λ (l : Layout). AreAllInHand l.shape new.redists) (sym same) all_held;
+      no_others = subst (λ (l : Layout). (v : ℕ) → l.shape.vcpus ≤ v → AreNotInHand new.redists v) (sym same) none_else;
+    };
+  }
+
   pub go : translators_of new.first new.second ≡ w.translators → new.memory ≡ w.memory → new.track ≡ w.track → IsSound w → GoesOn new w
   go translators memory track sound =
-      let state = state_is translators memory track sound in
-      record {
-        state = state;
-        whole = record {
-          sound = subst IsSound (sym state) sound;
-          all_in_hand = subst (λ (l : Layout). AreAllInHand l.shape new.redists) (sym same) all_held;
-          no_others = subst (λ (l : Layout). (v : ℕ) → l.shape.vcpus ≤ v → AreNotInHand new.redists v) (sym same) none_else;
-        };
-      }
+      go_sound translators memory track sound.vcpus (subst IsSound (sym (state_is translators memory track sound.vcpus)) sound)
 
 -- the state that a call leaves is gone on to, where it has these parts
 pub goes_on : (old new : Parts) (c : Call) (w : Plain) → IsMachine old → new.layout ≡ old.layout → (answer (state_of_parts old) c).1 ≡ w

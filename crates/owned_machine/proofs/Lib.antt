@@ -16,3 +16,4 @@ mod Led
 mod Walking
 mod Unstale
 mod Put
+mod SteppedOn

@@ -1,16 +1,18 @@
--- What a step of one translator leaves of the others, and of the second memory.
-use Rattle.std.proofs.Common.{◌≡◌, ℕ, zero, suc, Bool, true, false, List, [], ◌∷◌, Option, Some, None, Result, Ok, Err, IfOk, refl, sym, subst}
-use Rattle.std.specs.Prelude.{slice_get, if◌then◌else◌}
+-- What a step of one translator leaves of the others, and of the second memory, and how many redistributors.
+use Rattle.std.proofs.Common.{◌≡◌, ℕ, zero, suc, Bool, true, false, List, [], ◌∷◌, Option, Some, None, Result, Ok, Err, IfOk, refl, sym, subst, ◌∙◌}
+use Rattle.std.specs.Prelude.{slice_get, length, if◌then◌else◌, ◌==◌}
 use Rattle.std.proofs.lemmas.Bool.{cond_both}
+use Rattle.std.proofs.lemmas.List.{length-set, length-map}
 use Rattle.std.proofs.lemmas.Option.{same_Some}
 use Rattle.dirty_log.specs.declared.tracked.Tracked.{Tracked}
 use Rattle.its_command.specs.Commands.{decoded}
+use Rattle.its_types.specs.Lpis.{with_lpis}
 use Rattle.its_command.specs.declared.command.Command.{Command}
 use Rattle.its_types.specs.declared.machine.Part.{Part}
 use Rattle.its_types.specs.declared.machine.Part.TheVariants.{Maps as MapsOf}
-use Rattle.its_plain.specs.Plain.{Plain, maps_of}
+use Rattle.its_plain.specs.Plain.{Plain, maps_of, pending_of, redistributor, with_pending}
 use Rattle.its_plain.specs.Answer.{step_left, met_left, command_left, is_idle, next_bytes}
-use Rattle.its_plain.specs.Commands.{ran, all_moved}
+use Rattle.its_plain.specs.Commands.{ran, all_moved, all_reread_at}
 use Rattle.its_plain.specs.Parts.{IsIn, footprint, needed_by}
 use Rattle.its_plain.specs.declared.call.Call.TheVariants as call
 use Rattle.its_plain.specs.declared.call.Reason.{Reason}
@@ -82,3 +84,44 @@ met_tracks u i (Some bytes) = left_tracks u (ran u i (decoded bytes)) (ran_track
 pub step_track : (u : Plain) (i : ℕ) → (step_left u i).track ≡ u.track
 unfolding step_left
 step_track u i = cond_both (is_idle u i) u (met_left u i (next_bytes u i)) (λ w. w.track ≡ u.track) (λ _. refl) (λ _. met_tracks u i (next_bytes u i))
+
+-- ---- redistributors
+
+-- there are so many
+abbrev Long : ℕ → Plain → Type 0
+Long n u = length u.redistributors ≡ n
+
+all_moved_long : (u : Plain) (from to n : ℕ) → Long n u → Long n (all_moved from to u)
+unfolding all_moved
+all_moved_long u from to n h =
+    let x = with_pending u from [] in
+    let both = with_lpis (pending_of u from) (pending_of u to) in
+    cond_both (from == to) u (with_pending x to both) (Long n) (λ _. h)
+    (λ _. length-set x.redistributors to (record (redistributor x to) { pending = both })
+    ∙ length-set u.redistributors from (record (redistributor u from) { pending = [] }) ∙ h)
+
+ran_long : (u : Plain) (i : ℕ) (c : Command) → IfOk (ran u i c) (Long (length u.redistributors))
+ran_long u i c =
+    let n = length u.redistributors in
+    commands_keep (Long n) (record {
+      lpis = record {
+        set = λ v intid vcpu on h. length-set v.redistributors vcpu _ ∙ h;
+        cleared = λ v intid vcpu h. length-set v.redistributors vcpu _ ∙ h;
+        all_moved = λ v from to on h. all_moved_long v from to n h;
+        reread = λ v intids h. length-map v.redistributors (all_reread_at v.memory intids) ∙ h;
+      };
+      maps = λ v j m h. h;
+    }) u i c refl
+
+left_long : (u : Plain) (r : Result Plain Reason) → IfOk r (Long (length u.redistributors)) → Long (length u.redistributors) (command_left u r)
+left_long u (Ok w) h = h
+left_long u (Err e) h = refl
+
+met_long : (u : Plain) (i : ℕ) (o : Option (List ℕ)) → Long (length u.redistributors) (met_left u i o)
+met_long u i None = refl
+met_long u i (Some bytes) = left_long u (ran u i (decoded bytes)) (ran_long u i (decoded bytes))
+
+pub step_long : (u : Plain) (i : ℕ) → length (step_left u i).redistributors ≡ length u.redistributors
+unfolding step_left
+step_long u i =
+    cond_both (is_idle u i) u (met_left u i (next_bytes u i)) (Long (length u.redistributors)) (λ _. refl) (λ _. met_long u i (next_bytes u i))

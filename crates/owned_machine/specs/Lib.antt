@@ -8,3 +8,4 @@ pub mod Start
 pub mod Migrations
 pub mod Placed
 pub mod Stale
+pub mod Lent

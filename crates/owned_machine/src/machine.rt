@@ -1,10 +1,11 @@
 //! A machine that one caller has alone.
 use crate::calls::answered;
 use crate::migrations::{begin, go_on, moved, precopied};
+use crate::steps::step_on;
 use crate::stretches::{forget_stretch, write_stretch};
 use gicr_regs::{GicrRegisters, values_come_back, values_of};
-use guest_windows::Outside;
-use its_plain::{Call, Desc, MakeError, Reply, SaveError};
+use guest_windows::{Memory, Outside};
+use its_plain::{Call, Desc, MakeError, Reply, SaveError, StepReply};
 use its_types::{Addr, Intid, Vcpu};
 use owned_parts::Parts;
 use std::alloc::{AllocError, Global};
@@ -35,7 +36,7 @@ impl Model for Machine {
 impl Machine {
     ghost use Rattle.std.specs.Prelude.{◌≡◌, ◌<◌, ◌+◌, ◌^◌, true, IfOk, OnOk, OnErr, IfSome};
     ghost use Rattle.std.specs.Prelude.{IfErr, is_ok, is_some, length, map, replicate};
-    ghost use Rattle.guest_windows.specs.Windows.{inside};
+    ghost use Rattle.guest_windows.specs.Windows.{inside, extent};
     ghost use Rattle.gicr_regs.specs.Registers as spec;
     ghost use Rattle.its_plain.specs.Answer as plain;
     ghost use Rattle.its_plain.specs.Described.{IsMadeFrom};
@@ -43,7 +44,8 @@ impl Machine {
     ghost use Rattle.its_plain.specs.Plain.{pending_of, redistributor};
     ghost use Rattle.owned_machine.specs.Migrations.{Migrates, Precopies};
     ghost use Rattle.owned_machine.specs.Pieces.{written_to};
-    ghost use Rattle.owned_machine.specs.Whole.{IsMachine, may_want_memory};
+    ghost use Rattle.owned_machine.specs.Lent.{on, left_on};
+    ghost use Rattle.owned_machine.specs.Whole.{IsMachine, may_want_memory, step_adds};
     ghost use Rattle.owned_parts.specs.Owned.{state_of_parts};
 
     /// The machine that a description makes, restored from memory where the description says so, or
@@ -81,6 +83,19 @@ impl Machine {
         ensures rare { OnErr result (may_want_memory self.old call.now ≡ true) }
     {
         answered(&mut self.parts, alloc, call)
+    }
+
+    /// A step that is made on other memory with the same windows: guest memory is neither read nor
+    /// changed. Out of memory, which only a step that adds a device, an event or a collection can
+    /// be, the machine is as it was.
+    pub fn step_on(&mut self, memory: &Memory, its: u8) -> Result<StepReply, AllocError>
+        requires { map extent memory.now ≡ map extent self.old.memory }
+        ensures reply { IfOk result (λ r. r ≡ plain.step_reply (on memory.now self.old) its) }
+        ensures left { IfOk result (λ _. self.new ≡ left_on memory.now self.old its) }
+        ensures err { OnErr result (self.new ≡ self.old) }
+        ensures adding { OnErr result (step_adds (on memory.now self.old) its ≡ true) }
+    {
+        step_on(&mut self.parts, memory, its)
     }
 
     /// Writes bytes to guest memory, which begin below 2^64 and end there: as a `Poke` does, but of

@@ -1,5 +1,5 @@
 //! Steps (IHI 0069, section 5.3).
-ghost use Rattle.std.specs.Prelude.{◌≡◌, true, ℕ, IfOk, OnOk, OnErr, is_some};
+ghost use Rattle.std.specs.Prelude.{◌≡◌, true, ℕ, IfOk, OnOk, OnErr, is_some, map};
 ghost use Rattle.its_command.specs.Commands.{op_of};
 ghost use Rattle.its_plain.specs.Plain as plain;
 ghost use Rattle.its_plain.specs.Commands as commands;
@@ -11,6 +11,8 @@ ghost use Rattle.lpi_pending.specs.InHand.{conf_in, pend_in};
 ghost use Rattle.owned_parts.specs.Owned.{ArePartsOf, ArePartsOfSound, state_of_parts};
 ghost use Rattle.owned_machine.specs.Whole.{IsMachine, GoesOn, step_adds};
 ghost use Rattle.owned_machine.specs.Steps.{HoldsAll};
+ghost use Rattle.owned_machine.specs.Lent.{on, left_on};
+ghost use Rattle.guest_windows.specs.Windows.{extent};
 
 use cmd_exec::{Met, apply, make_room, meet, plan};
 use guest_windows::Memory;
@@ -44,6 +46,32 @@ pub fn step(parts: &mut Parts, its: u8) -> Result<StepReply, AllocError>
                 &mut parts.redists,
                 &parts.layout.shape,
             );
+        }
+    }
+    Ok(StepReply::Idle)
+}
+
+/// A step that is made on other memory with the same windows: guest memory is neither read nor
+/// changed. Out of memory nothing is changed.
+#[tactic(auto, unfolding(its_plain::specs::Answer::step_reply, its_plain::specs::Answer::step_left, crate::specs::Whole::step_adds))]
+pub fn step_on(parts: &mut Parts, memory: &Memory, its: u8) -> Result<StepReply, AllocError>
+    requires whole { IsMachine parts.old }
+    requires windows { map extent memory.now ≡ map extent parts.old.memory }
+    ensures reply { IfOk result (λ r.
+        r ≡ answers.step_reply (on memory.now (state_of_parts parts.old)) its) }
+    ensures left { IfOk result
+        (λ _. GoesOn parts.new (left_on memory.now (state_of_parts parts.old) its)) }
+    ensures err { OnErr result (parts.new ≡ parts.old) }
+    ensures adding { OnErr result
+        (step_adds (on memory.now (state_of_parts parts.old)) its ≡ true) }
+{
+    if its == 0 {
+        let shape = &parts.layout.shape;
+        return step_of(&mut parts.first, memory, &mut parts.redists, shape);
+    }
+    if its == 1 {
+        if let Some(second) = &mut parts.second {
+            return step_of(second, memory, &mut parts.redists, &parts.layout.shape);
         }
     }
     Ok(StepReply::Idle)

@@ -17,6 +17,19 @@ write 0x80 8 0x8000000080020000
 end
 ";
 
+/// Four threads, each of which acknowledges at a processor of its own.
+const TAKES: &str = "phase
+thread
+take 0
+thread
+take 1
+thread
+take 2
+thread
+take 3
+end
+";
+
 /// Two phases, each of one thread.
 const PHASES: &str = "phase
 thread
@@ -117,6 +130,28 @@ fn replies_fit_or_fit_nowhere(rt: HostRuntime) -> Result<(), Fail> {
             ),
             Status::Undecided,
             "undecided 1\n",
+        ),
+        // Calls that commute are tried in one order.
+        (
+            (
+                "its fit 4",
+                TAKES,
+                "1.1 5 9 take 0 -> none\n1.2 5 9 take 1 -> none\n1.3 5 9 take 2 -> none\n1.4 5 9 take 3 -> none\n",
+                SOME,
+            ),
+            Status::TraceDiffers,
+            "fits nowhere\n0 1.1 take 0 -> none\n1 1.2 take 1 -> none\n2 1.3 take 2 -> none\n3 1.4 take 3 -> none\nvcpu 0 said 8200 is none\n",
+        ),
+        // The first call doesn't go, and the others are told all the same.
+        (
+            (
+                "its fit",
+                TAKES,
+                "1.1 5 9 take 0 -> ok\n1.2 5 9 take 1 -> none\n1.3 5 9 take 2 -> none\n1.4 5 9 take 3 -> none\n",
+                NONE,
+            ),
+            Status::TraceDiffers,
+            "fits nowhere\n0 1.2 take 1 -> none\n1 1.3 take 2 -> none\n2 1.4 take 3 -> none\n1.1 said take 0 -> ok is take 0 -> none\n",
         ),
     ] {
         let answered = is_answered(&rt, alloc, row, (status, text));

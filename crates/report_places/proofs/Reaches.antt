@@ -15,7 +15,7 @@ use Rattle.its_history.specs.declared.trace.EntryLine.{EntryLine}
 use Rattle.its_history.specs.declared.trace.Leg.{Leg as LegLines}
 use Rattle.trace_check.specs.Differences.{seat, lines}
 use Rattle.report_places.specs.Reached.{Follows, PassesOver, Reaches, state_at}
-use Rattle.report_places.proofs.Follows.{many_lines}
+use Rattle.trace_check.proofs.LinesOf.{many_lines}
 use Rattle.trace_check.proofs.Lists.{head_is, tail_is, legal_front}
 use Rattle.trace_check.proofs.Parts.{part_front, whole_part}
 

@@ -1,18 +1,11 @@
 -- What was said with a list, by what a check says.
-use Rattle.std.proofs.Common.{◌≡◌, ℕ, List, Option, codes, subst}
+use Rattle.std.proofs.Common.{◌≡◌, ℕ, List, Option, codes}
 use Rattle.its_answers.specs.Checked.{CheckCauses, CheckSays}
 use Rattle.its_answers.specs.Streams.{WasRead}
 use Rattle.its_answers.specs.declared.status.Status.{Status}
 use Rattle.its_answers.specs.declared.status.Status.TheVariants as status
 use Rattle.its_answers.proofs.Causes.{said_causes}
-use Rattle.report_places.specs.Says.{IsAgreed, PlaceCauses, PlaceSays}
-
--- a check that agrees says one line
-agreed : (input line : List ℕ) → (h : CheckSays input status.Ok line) → IsAgreed input
-agreed input line h = subst (CheckSays input status.Ok) h.says.text_is h
-
-pub agreed_at : (input line : List ℕ) (s : Status) → s ≡ status.Ok → CheckSays input s line → IsAgreed input
-agreed_at input line s is h = agreed input line (subst (λ (t : Status). CheckSays input t line) is h)
+use Rattle.report_places.specs.Says.{PlaceCauses, PlaceSays}
 
 -- ---- of some bytes
 

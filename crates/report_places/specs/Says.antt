@@ -1,11 +1,11 @@
 -- What is said to a script and a report at a place.
-use Rattle.std.specs.Prelude.{◌≡◌, ℕ, List, codes, Option, Ok}
+use Rattle.std.specs.Prelude.{◌≡◌, ℕ, List, Option, Ok}
 use Rattle.event_script.specs.declared.script.Script.{Script}
 use Rattle.its_plain.specs.Described.{IsFirstState}
-use Rattle.its_plain.specs.Machine.{IsDescription}
 use Rattle.its_plain.specs.Plain.{Plain}
 use Rattle.its_plain.specs.Runs.{IsRun}
 use Rattle.its_plain.specs.declared.call.Entry.{Entry}
+use Rattle.its_answers.specs.Agreed.{IsAgreed}
 use Rattle.its_answers.specs.Checked.{CheckCauses, CheckSays, IsCheckInput, read_report}
 use Rattle.its_answers.specs.Legs.{all_told}
 use Rattle.its_answers.specs.Streams.{WasRead}
@@ -29,16 +29,6 @@ pub record IsListOf (input : List ℕ) (leg place : ℕ) (text : List ℕ) : Typ
   pub is_run : IsRun first script.legs histories
   pub read : read_report script report ≡ Ok (all_told script first histories)
   pub text_is : text ≡ place_text (state_at first histories leg place)
-
--- a check says so
-abbrev pub IsAgreed : List ℕ → Type 0
-IsAgreed input = CheckSays input status.Ok (codes "agrees\n")
-
--- its description is one, and its machine is made
-pub record StartsWell (script : Script) : Type 0 where
-  pub description : IsDescription script.desc
-  pub first : Plain
-  pub starts : IsFirstState script.desc first
 
 -- a list where a check agrees, and else what the check says
 abbrev pub PlaceSays : List ℕ → ℕ → ℕ → Status → List ℕ → Type 0

@@ -5,7 +5,8 @@ ghost use Rattle.its_answers.specs.Checked.{read_report};
 ghost use Rattle.its_history.specs.Reading.{IsReadAs};
 ghost use Rattle.its_plain.specs.Described.{IsFirstState};
 ghost use Rattle.trace_check.specs.Verdicts.{copies_for, copies_of};
-ghost use Rattle.report_places.specs.Says.{IsAgreed, IsList, IsListOf, PlaceSays, StartsWell};
+ghost use Rattle.its_answers.specs.Agreed.{IsAgreed, StartsWell};
+ghost use Rattle.report_places.specs.Says.{IsList, IsListOf, PlaceSays};
 
 use crate::list::list_at;
 use event_script::{Move, ParseError, Script, parse_check};

@@ -31,7 +31,8 @@ use Rattle.its_plain.specs.declared.call.Reason.{Reason}
 use Rattle.its_plain.specs.declared.call.Reason.TheVariants.{DeviceRange, SizeRange, TargetRange, CollectionRange, NoDevice, EventRange, IntidRange, LpisOff}
 use Rattle.cmd_exec.specs.Room as room
 use Rattle.plain_footprint.proofs.Chains.{ok_or_is, event_at_is}
-use Rattle.step_views.specs.Counts.{event_count, maps_new, met_adds, adds_event, growth}
+use Rattle.step_views.specs.Counts.{event_count, maps_event, met_adds, step_adds, adds_event, growth}
+use Rattle.step_views.specs.declared.counts.Addition.TheVariants.{NewEvent}
 use Rattle.step_views.specs.Laws.{StepsAddOne}
 
 -- ---- maps
@@ -254,8 +255,8 @@ module _ (i : ℕ) where
         new_within dev ev (record { intid = record { 0 = intid }; icid = record { 0 = icid } }) device
         (ok_or_is (device_of (maps_of u i) dev) NoDevice device mapped)))))
 
-    ran_within : (c : Command) → Within (n + growth (maps_new (maps_of u i) c)) (ran u i c)
-    unfolding ran maps_new
+    ran_within : (c : Command) → Within (n + growth (maps_event (maps_of u i) c)) (ran u i c)
+    unfolding ran maps_event
     ran_within (command.Mapd dev bits itt true) = more n 0 (mapd u i dev.0 bits itt) (mapd_within dev.0 bits itt)
     ran_within (command.Mapd dev bits itt false) = more n 0 (unmapd u i dev.0) (unmapd_within dev.0)
     ran_within (command.Mapc icid target true) = more n 0 (mapc u i icid.0 target) (mapc_within icid.0 target)
@@ -281,14 +282,14 @@ module _ (i : ℕ) where
     left_within (Ok w) new h = gone_on (n + growth new) w h
     left_within (Err e) new h = gone_on (n + 0) u (omega arith)
 
-    met_within : (o : Option (List ℕ)) → event_count (met_left u i o) i ≤ n + growth (met_adds u i o)
+    met_within : (o : Option (List ℕ)) → event_count (met_left u i o) i ≤ n + growth (met_adds NewEvent u i o)
     met_within None = omega arith
-    met_within (Some bytes) = left_within (ran u i (decoded bytes)) (maps_new (maps_of u i) (decoded bytes)) (ran_within (decoded bytes))
+    met_within (Some bytes) = left_within (ran u i (decoded bytes)) (maps_event (maps_of u i) (decoded bytes)) (ran_within (decoded bytes))
 
     step_within : event_count (step_left u i) i ≤ n + growth (adds_event u i)
-    unfolding step_left adds_event
+    unfolding step_left step_adds
     step_within =
-        elim (is_idle u i) as (λ b. event_count (cond b u (met_left u i (next_bytes u i))) i ≤ n + growth (not b && met_adds u i (next_bytes u i))) [
+        elim (is_idle u i) as (λ b. event_count (cond b u (met_left u i (next_bytes u i))) i ≤ n + growth (not b && met_adds NewEvent u i (next_bytes u i))) [
           | true ↦ omega arith
           | false ↦ met_within (next_bytes u i)
         ]

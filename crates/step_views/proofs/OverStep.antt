@@ -1,5 +1,5 @@
 -- A step over another memory that has the bytes which it reads.
-use Rattle.std.proofs.Common.{◌≡◌, ℕ, true, false, cond, List, [], ◌∷◌, map, Option, Some, None, Result, Ok, Err, refl, ap, ◌∙◌}
+use Rattle.std.proofs.Common.{◌≡◌, ℕ, true, false, cond, List, [], ◌∷◌, map, Option, Some, None, Result, Ok, Err, refl, sym, ap, ◌∙◌}
 use Rattle.std.specs.List.{AllByRecursion}
 use Rattle.dirty_log.specs.declared.tracked.Tracked.{Tracked}
 use Rattle.guest_windows.specs.Windows.{Window, extent}
@@ -13,8 +13,9 @@ use Rattle.its_plain.specs.Plain.{Plain, regs_of}
 use Rattle.its_plain.specs.Sound.{IsSound}
 use Rattle.its_plain.specs.declared.call.Reason.{Reason}
 use Rattle.its_plain.specs.declared.call.StepReply.TheVariants.{Idle}
-use Rattle.step_views.specs.Laws.{HasSameBytes, over, StepReads}
-use Rattle.step_views.specs.Reads.{reads, met_reads}
+use Rattle.owned_machine.specs.Lent.{on}
+use Rattle.step_views.specs.Laws.{HasSameBytes, over, StepReads, StepReadsBy, LentStepsAgree}
+use Rattle.step_views.specs.Reads.{reads, reads_by, met_reads}
 use Rattle.step_views.proofs.OverRan.{lifted, ran_over}
 use Rattle.step_views.proofs.Listing.{told_before, told_all}
 use Rattle.step_views.specs.Pairs.{all_told}
@@ -65,3 +66,25 @@ module _ (memory : List Window) (track : Option Tracked) (u : Plain) (i : ℕ) w
 
 pub reads_decide : StepReads
 reads_decide u i memory track sound h = step_same memory track u i sound h.windows h.bytes
+
+-- ---- on lent memory
+
+all_same : (memory : List Window) (stretches : List (ℕ × ℕ)) → AllByRecursion (HasSameBytes memory memory) stretches
+all_same memory [] = tt
+all_same memory (s ∷ stretches) = (refl, all_same memory stretches)
+
+-- a step leaves guest memory and the second one
+left_same : (u : Plain) (i : ℕ) → IsSound u → step_left u i ≡ over u.memory u.track (step_left u i)
+left_same u i sound = (step_same u.memory u.track u i sound refl (all_same u.memory (reads u i))).1
+
+pub lent_agree : LentStepsAgree
+lent_agree u i memory sound h =
+    let same = step_same memory u.track u i sound h.windows h.bytes in
+    (same.0, ap (on u.memory) same.1 ∙ sym (left_same u i sound))
+
+-- ---- by the command's bytes
+
+pub by_command : StepReadsBy
+unfolding reads reads_by
+by_command u i bytes is =
+    ap (λ (o : Option (List ℕ)). cond (is_idle u i) [] (all_told ((queue_place (regs_of u i), 32) ∷ []) (met_reads u i o))) is

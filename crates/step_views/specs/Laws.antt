@@ -1,18 +1,19 @@
 -- What the views of a step are worth.
-use Rattle.std.specs.Prelude.{◌≡◌, ◌≤◌, ℕ, ◌+◌, true, List, map, Option}
+use Rattle.std.specs.Prelude.{◌≡◌, ◌≤◌, ℕ, ◌+◌, true, List, map, Option, Some}
 use Rattle.std.specs.List.{AllByRecursion}
 use Rattle.dirty_log.specs.declared.tracked.Tracked.{Tracked}
 use Rattle.guest_windows.specs.Windows.{Window, read_at, byte_at, extent}
 use Rattle.guest_windows.proofs.Laws.{Apart}
-use Rattle.its_plain.specs.Answer.{step_reply, step_left}
+use Rattle.its_plain.specs.Answer.{step_reply, step_left, next_bytes}
 use Rattle.its_plain.specs.Plain.{Plain, regs_of}
 use Rattle.its_plain.specs.Saved.{saved, words_of}
 use Rattle.its_plain.specs.Sound.{IsSound}
 use Rattle.its_plain.specs.Translation.{translated}
+use Rattle.owned_machine.specs.Lent.{on, left_on}
 use Rattle.table_save.specs.Stretches.{stretches_of}
 use Rattle.step_views.specs.Counts.{event_count, adds_event, growth}
 use Rattle.step_views.specs.Destinations.{destination, signalled}
-use Rattle.step_views.specs.Reads.{reads}
+use Rattle.step_views.specs.Reads.{reads, reads_by}
 
 -- ---- what a step reads
 
@@ -33,6 +34,15 @@ over memory track u = record u { memory = memory; track = track }
 abbrev pub StepReads : Type 0
 StepReads = (u : Plain) (i : ℕ) (memory : List Window) (track : Option Tracked) → IsSound u → AgreeIn (reads u i) u.memory memory
     → (step_reply (over memory track u) i ≡ step_reply u i) × (step_left (over memory track u) i ≡ over memory track (step_left u i))
+
+-- it reads what is said by its command's bytes
+abbrev pub StepReadsBy : Type 0
+StepReadsBy = (u : Plain) (i : ℕ) (bytes : List ℕ) → next_bytes u i ≡ Some bytes → reads u i ≡ reads_by u i bytes
+
+-- a step on other memory that has these bytes is answered as one on guest memory, and leaves the same
+abbrev pub LentStepsAgree : Type 0
+LentStepsAgree = (u : Plain) (i : ℕ) (memory : List Window) → IsSound u → AgreeIn (reads u i) u.memory memory
+    → (step_reply (on memory u) i ≡ step_reply u i) × (left_on memory u i ≡ step_left u i)
 
 -- ---- where an event leads
 

@@ -80,3 +80,7 @@ still_reads (Refused op reason) = []
 -- none where there is no command to take; else the command's 32 bytes, and then what it reads besides, each stretch once
 unfoldable pub reads : Plain → ℕ → List (ℕ × ℕ)
 reads u i = if is_idle u i then [] else all_told ((queue_place (regs_of u i), 32) ∷ []) (met_reads u i (next_bytes u i))
+
+-- so where the 32 bytes of the command are these
+unfoldable pub reads_by : Plain → ℕ → List ℕ → List (ℕ × ℕ)
+reads_by u i bytes = if is_idle u i then [] else all_told ((queue_place (regs_of u i), 32) ∷ []) (met_reads u i (Some bytes))

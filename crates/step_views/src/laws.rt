@@ -7,6 +7,17 @@ pub fn step_reads()
     ensures { laws.StepReads }
 {}
 
+/// What a step reads is what is said by the bytes of its command.
+pub fn reads_by_command()
+    ensures { laws.StepReadsBy }
+{}
+
+/// A step that is made on other memory, which has the bytes that the step reads, is answered and
+/// leaves the same as one that is made on guest memory.
+pub fn lent_steps_agree()
+    ensures { laws.LentStepsAgree }
+{}
+
 /// A signal to an enabled translator goes where the event leads.
 pub fn destination_tells()
     ensures { laws.DestinationTells }

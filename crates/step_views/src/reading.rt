@@ -1,6 +1,7 @@
 //! The stretches of guest memory that a step reads.
 ghost use Rattle.std.specs.Prelude.{◌≡◌, ◌+◌, ◌≤◌, ◌&&◌, ℕ, length};
-ghost use Rattle.std.specs.Prelude.{if◌then◌else◌, [], ◌∷◌, is_some};
+ghost use Rattle.std.specs.Prelude.{if◌then◌else◌, [], ◌∷◌, is_some, not, ◌||◌};
+ghost use Rattle.gits_regs.specs.Registers.{is_queue_empty};
 ghost use Rattle.cmd_exec.specs.Room as room;
 ghost use Rattle.its_plain.specs.Sound.{IsShape};
 ghost use Rattle.its_types.specs.Maps as plain;
@@ -19,7 +20,7 @@ use crate::stretch::Stretch;
 use crate::walk::Needs;
 use cmd_exec::{Met, meet};
 use gits_regs::Regs;
-use its_command::Command;
+use its_command::{Command, decode};
 use its_maps::{LookUp, Maps};
 use its_plain::StepReply;
 use its_types::{Addr, DeviceId, Event, EventId, FIRST_LPI, Icid, Intid, Shape};
@@ -51,6 +52,42 @@ fn needs_of<'a>(parts: &'a Parts, translator: TranslatorRef<'_>) -> Needs<'a>
         Met::Still(reply) => needs_still(reply),
         Met::Command(command) => command_needs(regs.queue_place(), &command, regs, maps, parts),
     }
+}
+
+/// The same where the command's 32 bytes are these, whatever guest memory has there.
+pub fn needs_by<'a>(parts: &'a Parts, its: u8, command: &[u8; 32]) -> Needs<'a>
+    requires { IsMachine parts.now }
+    ensures needs { result ≡ spec.reads_by (state_of_parts parts.now) its command.now }
+    ensures few { length result ≤ most_vcpus + 1 }
+{
+    match parts.in_place().translator(its) {
+        Some(translator) => needs_of_bytes(parts, translator, command),
+        None => Needs::none(),
+    }
+}
+
+fn needs_of_bytes<'a>(
+    parts: &'a Parts,
+    translator: TranslatorRef<'_>,
+    command: &[u8; 32],
+) -> Needs<'a>
+    requires { IsMachine parts.now }
+    ensures needs { (i : ℕ) → IsNumber parts.now translator.entry i
+        → result ≡ spec.reads_by (state_of_parts parts.now) i command.now }
+    ensures few { length result ≤ most_vcpus + 1 }
+{
+    let TranslatorRef { regs, maps } = translator;
+    if is_idle(regs) {
+        return Needs::none();
+    }
+    command_needs(regs.queue_place(), &decode(command), regs, maps, parts)
+}
+
+// There is no command to take.
+fn is_idle(regs: &Regs) -> bool
+    ensures { result ≡ (not regs.now.enabled || is_queue_empty regs.now) }
+{
+    !regs.enabled() || regs.queue_is_empty()
 }
 
 // Where no command is met: the bytes that should be there, if there should be some.

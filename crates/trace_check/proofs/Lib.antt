@@ -10,3 +10,4 @@ pub mod Texts
 pub mod Ends
 pub mod Redistributors
 pub mod Checked
+pub mod LinesOf

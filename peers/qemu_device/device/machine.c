@@ -53,6 +53,7 @@ static struct its_description_in description(BacciledruIts *s, Source source)
         .programmed = 1, .restored = source != FROM_NOTHING, .linux_guest = 1,
         .ctlr = its->ctlr, .cbaser = its->cbaser, .creadr = its->creadr,
         .cwriter = its->cwriter, .baser0 = its->baser[0], .baser1 = its->baser[1],
+        .event_limit = EVENTS, .device_limit = UINT64_MAX, .memory_limit = UINT64_MAX,
     };
 }
 
@@ -122,7 +123,6 @@ bool bacciledru_make(BacciledruIts *s, Source source, Error **errp)
     }
     trace_bacciledru_made(source, s->windows_len, list->len);
     s->wider = false;
-    bacciledru_done(s, "its_limit", its_limit(s->handle, EVENTS));
     for (int i = 0; i < s->gic->num_cpu; i++) {
         bacciledru_keep_lpi_registers(s, i);
         bacciledru_show_first(s, i);

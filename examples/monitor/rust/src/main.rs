@@ -34,6 +34,9 @@ fn numbers() -> Description {
         config: CONFIG,
         has_frames: 1,
         frames: FRAMES,
+        event_limit: u64::MAX,
+        device_limit: u64::MAX,
+        memory_limit: u64::MAX,
         ..Description::default()
     }
 }

@@ -26,6 +26,9 @@ pub struct Description {
     pub cwriter: u64,
     pub baser0: u64,
     pub baser1: u64,
+    pub event_limit: u64,
+    pub device_limit: u64,
+    pub memory_limit: u64,
 }
 
 #[repr(C)]

@@ -13,12 +13,6 @@ return_to-requires-clause-some g c =
     c.keep_longest.new.self c.take_last-taken.new.self c.in-Some.last (record { no_more = c.requires.no_more; no_end = c.requires.no_end })
     c.in_ok-keep_longest.ensures (rw c.in-Some.is at c.take_last-taken.ensures) c.requires.at.1).some
 
-pub return_to-requires-clause-fits : goal.return_to-requires-clause-fits
-return_to-requires-clause-fits g c =
-    (back_of (g.C.Recorded.Goes c.args.calls.now) (g.C.Recorded.IsEnd c.args.calls.now) c.args.threads.now c.requires.at.0 c.args.search.now
-    c.keep_longest.new.self c.take_last-taken.new.self c.in-Some.last (record { no_more = c.requires.no_more; no_end = c.requires.no_end })
-    c.in_ok-keep_longest.ensures (rw c.in-Some.is at c.take_last-taken.ensures) c.requires.at.1).fits
-
 pub returns-in-Some-clause-back : goal.returns-in-Some-clause-back
 returns-in-Some-clause-back g c =
     λ e first here. at_returned (g.C.Recorded.Goes c.args.calls.now) (g.C.Recorded.IsEnd c.args.calls.now) c.args.threads.now first c.args.search.now

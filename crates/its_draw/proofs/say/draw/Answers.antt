@@ -1,5 +1,6 @@
 use Rattle.event_script.specs.Text.{parts}
-use Rattle.its_draw.proofs.Starts.{starts_well, no_fault_as, of_input}
+use Rattle.its_answers.proofs.Agreed.{starts_well, no_fault_as}
+use Rattle.its_draw.proofs.Starts.{of_input}
 use Rattle.its_draw.proofs.say.draw.Goals as goal
 
 pub draw_report-requires : goal.draw_report-requires

@@ -1,4 +1,5 @@
-use Rattle.its_draw.proofs.Said.{agreed_at, as_checked}
+use Rattle.its_answers.proofs.Agreed.{agreed_at}
+use Rattle.its_draw.proofs.Said.{as_checked}
 use Rattle.its_draw.proofs.say.say_draw.Goals as goal
 
 pub draw-requires : goal.draw-requires

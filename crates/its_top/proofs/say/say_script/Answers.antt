@@ -1,6 +1,6 @@
 use Rattle.std.proofs.Common.{refl, rules}
 use Rattle.its_answers.proofs.Saying.{run_said, so_far_said}
-use Rattle.its_top.proofs.Sharing.{is_ready, some_shards, most_shards, stamps, stamps_of_two, places}
+use Rattle.its_top.proofs.Sharing.{is_ready, some_shards, most_shards, stamps, stamps_of_two, places, few_stamps, alone}
 use Rattle.its_top.proofs.say.say_script.Goals as goal
 
 pub share-requires-clause-description : goal.share-requires-clause-description
@@ -20,6 +20,12 @@ share-requires-clause-stamps_of_two g c = stamps_of_two c.args.script.now c.requ
 
 pub share-requires-clause-places : goal.share-requires-clause-places
 share-requires-clause-places g c = places c.args.script.now c.requires.within
+
+pub share-requires-clause-few_stamps : goal.share-requires-clause-few_stamps
+share-requires-clause-few_stamps g c = few_stamps c.args.script.now c.requires.within
+
+pub share-requires-clause-alone : goal.share-requires-clause-alone
+share-requires-clause-alone g c = alone c.args.script.now c.requires.within
 
 pub run-requires-clause-ready : goal.run-requires-clause-ready
 run-requires-clause-ready g c κs within =

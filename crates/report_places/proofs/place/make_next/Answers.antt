@@ -1,7 +1,7 @@
 use Rattle.std.proofs.Common.{◌≡◌, Some, sym}
 use Rattle.trace_check.specs.Cursors.{next_call}
 use Rattle.trace_check.specs.Fields.{progress}
-use Rattle.report_places.proofs.Follows.{has_next_call}
+use Rattle.trace_check.proofs.LinesOf.{has_next_call}
 use Rattle.report_places.proofs.place.make_next.Goals as goal
 
 pub take-requires-clause-call : goal.take-requires-clause-call

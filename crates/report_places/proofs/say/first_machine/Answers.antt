@@ -1,4 +1,4 @@
-use Rattle.report_places.proofs.Starts.{no_refusal_as}
+use Rattle.its_answers.proofs.Agreed.{no_refusal_as}
 use Rattle.report_places.proofs.say.first_machine.Goals as goal
 
 pub new-requires : goal.new-requires

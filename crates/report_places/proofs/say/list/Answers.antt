@@ -1,5 +1,6 @@
 use Rattle.event_script.specs.Text.{parts}
-use Rattle.report_places.proofs.Starts.{starts_well, no_fault_as, of_input}
+use Rattle.its_answers.proofs.Agreed.{starts_well, no_fault_as}
+use Rattle.report_places.proofs.Starts.{of_input}
 use Rattle.report_places.proofs.say.list.Goals as goal
 
 pub list_report-requires : goal.list_report-requires

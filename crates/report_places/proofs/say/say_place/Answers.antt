@@ -1,4 +1,5 @@
-use Rattle.report_places.proofs.Said.{agreed_at, as_checked}
+use Rattle.its_answers.proofs.Agreed.{agreed_at}
+use Rattle.report_places.proofs.Said.{as_checked}
 use Rattle.report_places.proofs.say.say_place.Goals as goal
 
 pub list-requires : goal.list-requires

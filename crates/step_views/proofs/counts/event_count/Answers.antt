@@ -1,14 +1,14 @@
 use Rattle.std.proofs.Common.{sym, ◌∙◌}
-use Rattle.step_views.proofs.OfMachine.{lent_number, lent_none, counted_there, none_counted}
+use Rattle.step_views.proofs.OfMachine.{lent_number, lent_none, events_there, no_events}
 use Rattle.step_views.proofs.counts.event_count.Goals as goal
 
 pub returns-in-Some : goal.returns-in-Some
 returns-in-Some c =
     let at = lent_number c.args.parts.now c.in_place.result c.args.its c.translator.result c.in_place.ensures.state c.translator.ensures c.in-Some.translator
     c.in-Some.is in
-    c.event_count.ensures ∙ counted_there c.args.parts.now c.in-Some.translator c.requires c.args.its at
+    c.event_count.ensures ∙ events_there c.args.parts.now c.in-Some.translator c.requires c.args.its at
 
 pub returns-in-None : goal.returns-in-None
 returns-in-None c =
     let none = lent_none c.args.parts.now c.in_place.result c.args.its c.translator.result c.in_place.ensures.state c.translator.ensures c.in-None.is in
-    sym (none_counted c.args.parts.now c.args.its none)
+    sym (no_events c.args.parts.now c.args.its none)

@@ -11,5 +11,5 @@ returns-in-Some-clause-needs c =
 
 pub returns-in-None-clause-needs : goal.returns-in-None-clause-needs
 returns-in-None-clause-needs c =
-    c.none.ensures ∙ reads_idle c.args.parts.now c.args.its
+    c.none.ensures ∙ reads_idle c.args.parts.now c.args.parts.now.memory c.args.its
     (lent_none c.args.parts.now c.in_place.result c.args.its c.translator.result c.in_place.ensures.state c.translator.ensures c.in-None.is)

@@ -1,4 +1,4 @@
-use Rattle.std.proofs.Common.{rules, arith, ◌≡◌, ℕ, ◌+◌, ◌*◌, ◌<◌, ◌≤◌, ◌^◌, List, length, replicate, ap, sym, ◌∙◌, subst}
+use Rattle.std.proofs.Common.{rules, arith, ◌≡◌, ℕ, ◌+◌, ◌*◌, ◌<◌, ◌≤◌, List, length, replicate, ap, sym, ◌∙◌, subst}
 use Rattle.atomic_table.specs.Table.{opening}
 use Rattle.its_types.specs.Ranges.{most_vcpus}
 use Rattle.its_plain.specs.Machine.{layout_of}
@@ -9,6 +9,7 @@ use Rattle.its_steps.specs.World.{first_view}
 use Rattle.owned_parts.specs.declared.parts.Parts.{Parts}
 use Rattle.its_turns.specs.Opening.{setup_from, first_words}
 use Rattle.its_turns.specs.Rule.{Kept, setup_of}
+use Rattle.its_turns.specs.Words.{HaveRoom, packing_of}
 use Rattle.its_turns.specs.declared.value.Value.{Value}
 use Rattle.its_turns.proofs.Described.{kept_long}
 use Rattle.its_turns.proofs.Opening.{opens, values_long, apart_long}
@@ -77,7 +78,10 @@ invariant_of-result c =
         omega (arith, before, shards, few, some_number.1),
       );
       shifted = omega (arith, translators, some_number.0);
-      small = subst (λ (d : Desc). (1 ≤ d.shards) × (d.shards ≤ 64) × (d.shape.vcpus ≤ most_vcpus) × (d.limits.place_last < 2 ^ 40) × (d.limits.stamp_last < 2 ^ 24))
-          (sym c.in_ok-frame.ensures.desc)
-          (c.requires.some_shards, c.requires.most_shards, c.requires.vcpus, c.requires.places, c.requires.stamps);
+      small = subst (λ (d : Desc). (1 ≤ d.shards) × (d.shards ≤ 64) × (d.shape.vcpus ≤ most_vcpus)) (sym c.in_ok-frame.ensures.desc)
+          (c.requires.some_shards, c.requires.most_shards, c.requires.vcpus);
+      room = subst (λ (d : Desc). HaveRoom d.limits (length d.translators)) (sym c.in_ok-frame.ensures.desc)
+          (subst (λ (n : ℕ). HaveRoom c.args.desc.now.limits n) (sym (kept_long c.args.desc.now))
+          record { stamps = c.requires.stamps; places = c.requires.places; few_stamps = c.requires.few_stamps; alone = c.requires.alone });
+      packed = c.packing_of.ensures ∙ ap (λ (d : Desc). packing_of d.limits) (sym c.in_ok-frame.ensures.desc);
     }

@@ -49,6 +49,9 @@ invariant_of-self c =
 pub load-requires-clause-live : goal.load-requires-clause-live
 load-requires-clause-live c = ap (λ m. m.0.standing) c.join_seat.ensures.2 ∙ c.args.self.now.live
 
+pub load-requires-clause-setup : goal.load-requires-clause-setup
+load-requires-clause-setup c = ap (λ m. m.0.setup) c.join_seat.ensures.2 ∙ c.requires.of.0.1
+
 pub returns-clause-view : goal.returns-clause-view
 returns-clause-view c = let is = ap (λ m. m.0) c.join_seat.ensures.2 in (
   c.load.result,

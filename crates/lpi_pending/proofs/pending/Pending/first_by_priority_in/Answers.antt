@@ -3,7 +3,8 @@ use Rattle.lpi_pending.specs.Looks.{Looked}
 use Rattle.lpi_pending.specs.Priorities.{IsBest}
 use Rattle.lpi_pending.specs.Searches.{count_in}
 use Rattle.lpi_pending.specs.Summaries.{is_used}
-use Rattle.lpi_pending.proofs.Bests.{best_is, best_cost}
+use Rattle.lpi_pending.proofs.Bests.{best_cost}
+use Rattle.lpi_pending.proofs.FirstOfAll.{best_is}
 use Rattle.lpi_pending.proofs.pending.Pending.first_by_priority_in.Goals as goal
 
 pub returns-in-Some-clause-found : goal.returns-in-Some-clause-found

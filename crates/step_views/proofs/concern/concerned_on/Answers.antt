@@ -1,6 +1,6 @@
 use Rattle.step_views.proofs.Meeting.{stays_idle}
 use Rattle.step_views.proofs.OfMachine.{lent_number, lent_none}
-use Rattle.step_views.proofs.concern.concerned.Goals as goal
+use Rattle.step_views.proofs.concern.concerned_on.Goals as goal
 
 pub concerned_in-requires-clause-there : goal.concerned_in-requires-clause-there
 concerned_in-requires-clause-there c = (
@@ -23,4 +23,4 @@ returns-in-Some-clause-concerned c =
 pub returns-in-None-clause-others : goal.returns-in-None-clause-others
 returns-in-None-clause-others c =
     let none = lent_none c.args.parts.now c.in_place.result c.args.its c.translator.result c.in_place.ensures.state c.translator.ensures c.in-None.is in
-    λ vcpu out. stays_idle c.args.parts.now c.args.its none vcpu
+    λ vcpu out. stays_idle c.args.parts.now c.args.memory.now c.args.its none vcpu

@@ -1,0 +1,11 @@
+use Rattle.its_numbers.specs.Mapped.{mappings_from}
+use Rattle.its_plain.specs.Plain.{maps_of}
+use Rattle.its_shared.specs.Seeing.{ListsFirst}
+use Rattle.its_shared.proofs.Shown.{shows_list}
+use Rattle.its_shared.proofs.looks.mappings.Goals as goal
+
+pub returns-clause-told : goal.returns-clause-told
+returns-clause-told c =
+    shows_list (⊥) (λ u before after n. ListsFirst (mappings_from (maps_of u 0) c.args.device c.args.from) before after n) c.args.port.now c.mappings.new.self c.mappings.result c.told.result c.args.place.now
+    c.told.new.place c.args.list.now c.mappings.new.list c.args.count.now c.told.new.out c.mappings.ensures.seen c.mappings.ensures.only c.told.ensures.code c.told.ensures.place
+    c.told.ensures.out
