@@ -16,7 +16,6 @@ mod lent;
 mod look_calls;
 #[cfg(test)]
 mod look_tests;
-mod looks;
 mod making;
 mod mapped_looks;
 mod message_calls;
@@ -34,6 +33,7 @@ mod stored_look;
 mod telling;
 #[cfg(test)]
 mod tests;
+mod told;
 mod unseen;
 mod views;
 mod written_look;

@@ -13,13 +13,10 @@ ghost use Rattle.its_shared.specs.Seeing.{written as tables};
 ghost use Rattle.its_shared.specs.Telling.{InPass, machine_of};
 ghost use Rattle.step_views.specs.Destinations.{destination};
 
-use crate::looks::{
-    collections, devices, event as look_event, mappings, needs, pending, stored_lpi_registers,
-    written,
-};
 use crate::pass::Pass;
+use crate::told::told;
 use its_numbers::{
-    CollectionOut, DeviceOut, EventOut, HANDLE, MappingOut, RedistributorIn, StretchOut,
+    CollectionOut, DeviceOut, EventOut, HANDLE, MappingOut, RANGE, RedistributorIn, StretchOut,
 };
 use std::alloc::Global;
 
@@ -42,7 +39,7 @@ pub extern "C" fn its_pass_event(
     if pass.is_empty() {
         return HANDLE;
     }
-    look_event(pass.lent(), device, event, place, out)
+    told(pass.lent().event(device, event), place, out)
 }
 
 /// The LPIs that are pending at a virtual processor, rising: as many as the list takes, whose rest
@@ -69,7 +66,11 @@ pub extern "C" fn its_pass_pending(
     if pass.is_empty() {
         return HANDLE;
     }
-    pending(pass.lent(), alloc, vcpu, place, list, count)
+    let port = pass.lent();
+    if !port.has_vcpu(vcpu) {
+        return RANGE;
+    }
+    told(port.pending(alloc, vcpu as u16, list), place, count)
 }
 
 /// The values that the LPI registers of a redistributor are restored from. All zero where the guest
@@ -93,7 +94,11 @@ pub extern "C" fn its_pass_stored_lpi_registers(
     if pass.is_empty() {
         return HANDLE;
     }
-    stored_lpi_registers(pass.lent(), vcpu, place, out)
+    let port = pass.lent();
+    if !port.has_vcpu(vcpu) {
+        return RANGE;
+    }
+    told(port.stored_lpi_registers(vcpu as u16), place, out)
 }
 
 /// The tables that a save of this state writes: as many as the list takes, whose rest stays, and
@@ -116,7 +121,7 @@ pub extern "C" fn its_pass_written(
     if pass.is_empty() {
         return HANDLE;
     }
-    written(pass.lent(), alloc, place, list, count)
+    told(pass.lent().written(alloc, list), place, count)
 }
 
 /// The stretches of guest memory that the next step reads: as many as the list takes, whose rest
@@ -139,7 +144,7 @@ pub extern "C" fn its_pass_needs(
     if pass.is_empty() {
         return HANDLE;
     }
-    needs(pass.lent(), alloc, place, list, count)
+    told(pass.lent().needs(alloc, list), place, count)
 }
 
 /// The mapped devices from a DeviceID on, by rising DeviceID: as many as the list takes, whose rest
@@ -162,7 +167,7 @@ pub extern "C" fn its_pass_list_devices(
     if pass.is_empty() {
         return HANDLE;
     }
-    devices(pass.lent(), from, place, list, count)
+    told(pass.lent().devices(from, list), place, count)
 }
 
 /// The mapped events of a device from an EventID on, by rising EventID, as the devices are told. A
@@ -186,7 +191,7 @@ pub extern "C" fn its_pass_list_events(
     if pass.is_empty() {
         return HANDLE;
     }
-    mappings(pass.lent(), device, from, place, list, count)
+    told(pass.lent().mappings(device, from, list), place, count)
 }
 
 /// The mapped collections from a number on, by rising number, as the devices are told.
@@ -208,5 +213,5 @@ pub extern "C" fn its_pass_list_collections(
     if pass.is_empty() {
         return HANDLE;
     }
-    collections(pass.lent(), from, place, list, count)
+    told(pass.lent().collections(from, list), place, count)
 }

@@ -10,13 +10,15 @@ use crate::port::Port;
 use crate::stored_look::try_stored;
 use crate::unseen::Unseen;
 use crate::written_look::try_written;
-use its_numbers::{CollectionOut, DeviceOut, MappingOut, RedistributorIn, StretchOut};
+use its_numbers::{
+    CollectionOut, DeviceOut, EventOut, MappingOut, RedistributorIn, StretchOut, event_out,
+};
 use its_types::{DeviceId, EventId, Placed, Vcpu};
 use std::alloc::Global;
-use step_views::Destination;
 
 impl Port {
     ghost use Rattle.std.specs.Prelude.{◌≡◌, true, OnErr};
+    ghost use Rattle.its_numbers.specs.Events.{event_out};
     ghost use Rattle.its_numbers.specs.Mapped.{collections_from, devices_from, mappings_from};
     ghost use Rattle.its_numbers.specs.Stored.{stored};
     ghost use Rattle.its_plain.specs.Plain.{maps_of, pending_of};
@@ -26,17 +28,24 @@ impl Port {
     ghost use Rattle.step_views.specs.Destinations.{destination};
 
     /// Where an event leads.
-    pub fn event(&mut self, device: u32, event: u32) -> Result<Placed<Destination>, Unseen>
+    pub fn event(&mut self, device: u32, event: u32) -> Result<Placed<EventOut>, Unseen>
         ensures desc { self.new.desc ≡ self.old.desc }
-        ensures seen { Sees ⊥ (λ u d. d ≡ destination u 0 device event)
+        ensures seen { Sees ⊥ (λ u x. x ≡ event_out (destination u 0 device event))
             self.old.view self.new.view result }
     {
-        try_event(
+        let seen = match try_event(
             &self.machine,
             &mut self.pass,
             DeviceId(device),
             EventId(event),
-        )
+        ) {
+            Ok(seen) => seen,
+            Err(unseen) => return Err(unseen),
+        };
+        Ok(Placed {
+            place: seen.place,
+            reply: event_out(seen.reply),
+        })
     }
 
     /// The LPIs that are pending at a virtual processor.

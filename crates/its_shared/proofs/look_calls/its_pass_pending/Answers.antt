@@ -1,11 +1,17 @@
-use Rattle.std.proofs.Common.{◌≡◌, true, ap, sym, ◌∙◌, subst}
-use Rattle.its_shared.specs.Knowing.{Known, has_vcpu}
+use Rattle.std.proofs.Common.{ap, sym, ◌∙◌}
+use Rattle.its_plain.specs.Plain.{pending_of}
+use Rattle.its_shared.specs.Seeing.{ListsNumbers}
 use Rattle.its_shared.specs.declared.pass.Pass.{Pass}
 use Rattle.its_shared.proofs.Seen.{same_some, shows_of}
+use Rattle.its_shared.proofs.Shown.{shows_list}
 use Rattle.its_shared.proofs.look_calls.its_pass_pending.Goals as goal
 
 pub returns-clause-told : goal.returns-clause-told
 returns-clause-told c k l before later has =
-    let old : c.lent.result.now ≡ k = same_some c.lent.result.now k (sym c.lent.ensures.value ∙ (ap (λ (p : Pass). p.known) c.is_empty.ensures.1 ∙ before)) in
-    shows_of _ _ c.lent.result.now c.pending.new.port k l _ _ _ _ _ old (same_some c.pending.new.port l later)
-    (c.pending.ensures.told (subst (λ (x : Known). has_vcpu x c.args.vcpu ≡ true) (sym old) has))
+    let old = c.lent-port.result.now in
+    let now = c.pending.new.self in
+    shows_of _ _ old now k l _ _ _ _ _ (same_some old k (sym c.lent-port.ensures.value ∙ (ap (λ (p : Pass). p.known) c.is_empty.ensures.1 ∙ before)))
+    (same_some now l later)
+    (shows_list (Unit {0}) (λ u before after n. ListsNumbers (pending_of u c.args.vcpu) before after n) old now c.pending.result c.told.result
+    c.args.place.now c.told.new.place c.args.list.now c.pending.new.list c.args.count.now c.told.new.out c.pending.ensures.seen c.pending.ensures.only
+    c.told.ensures.code c.told.ensures.place c.told.ensures.out)
