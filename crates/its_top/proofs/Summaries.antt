@@ -1,9 +1,10 @@
 -- A run of a script that was made, counted.
-use Rattle.std.proofs.Common.{◌≡◌, ℕ, List, [], ◌∷◌, length, map, get_or, None, Err, refl, sym, ap, subst, ◌∙◌}
+use Rattle.std.proofs.Common.{◌≡◌, ℕ, List, [], ◌∷◌, length, map, get_or, None, Result, Ok, Err, IfOk, refl, sym, ap, subst, ◌∙◌}
 use Rattle.std.proofs.lemmas.List.{length-map}
 use Rattle.its_types.specs.declared.ids.Intid.{Intid}
 use Rattle.its_plain.specs.Described.{IsFirstState}
 use Rattle.its_plain.specs.History.{after}
+use Rattle.its_plain.specs.Plain.{Plain}
 use Rattle.its_plain.specs.Regions.{savable}
 use Rattle.its_plain.specs.Runs.{Leg, ArePhases, IsLegRun}
 use Rattle.its_plain.specs.declared.call.Entry.{Entry}
@@ -18,8 +19,12 @@ use Rattle.its_turns.specs.declared.machine.Pass.{Pass}
 use Rattle.its_migrate.specs.Resting.{pending_at_rest, resting}
 use Rattle.script_threads.specs.Legs.{RanLeg}
 use Rattle.script_gen.specs.Generated.{first_leg, generated}
+use Rattle.its_plain.specs.Saved.{moved}
 use Rattle.script_gen.specs.Laws.{CanMigrate}
-use Rattle.its_top.specs.Summarized.{IsMade, pending_counts}
+use Rattle.script_gen.specs.Summary.{summary}
+use Rattle.script_gen.specs.declared.counts.Counts.{Counts}
+use Rattle.its_top.specs.Summarized.{IsCounted, IsMade, IsSummary, pending_counts}
+use Rattle.its_top.specs.declared.moves.Shared.{Shared}
 use Rattle.its_top.proofs.Endings.{not_savable}
 
 -- the script's first leg
@@ -52,3 +57,30 @@ pub pending_are : (lists : List (List Intid)) (m : Machine) (r : Pass) → map (
 pending_are lists m r told fresh =
     lengths lists ∙ ap (map (λ lpis. length lpis)) told
     ∙ ap (λ (v : View). map (λ lpis. length lpis) (pending_at_rest (after (setup m).start v.seen))) fresh
+
+-- ---- the summary
+
+-- the second leg has no calls
+nothing_run : (u : Plain) → IsLegRun u [] []
+nothing_run u = record { legal = tt; calls = refl }
+
+-- what is told of a leg that was counted, and of what is pending after the migration
+pub summed : {T E : Type 0} (bytes : T → List ℕ) (signals threads : ℕ) (script : Script) (first : Plain) (counts : Counts) (next : Shared) (pending : List ℕ)
+    (r : Result T E) → IsMade signals threads script → IsFirstState script.desc first → IsCounted signals threads first counts next
+    → pending ≡ pending_counts (setup next.machine).start → IfOk r (λ text. bytes text ≡ summary counts pending)
+    → IfOk r (λ text. IsSummary signals threads (bytes text))
+summed bytes signals threads script first counts next pending (Err e) made starts counted are is = tt
+summed bytes signals threads script first counts next pending (Ok text) made starts counted are is = record {
+  first = first;
+  starts = subst (λ (s : Script). IsFirstState s.desc first) made.same starts;
+  history = counted.history;
+  is_run = (
+    counted.history,
+    [] ∷ [],
+    refl,
+    counted.is_run,
+    counted.can,
+    ([], refl, nothing_run (moved (after first counted.history))),
+  );
+  same = is ∙ (λ d. summary (counted.counts_are d) ((are ∙ ap pending_counts counted.start) d));
+}
