@@ -14,6 +14,9 @@ const MOST_TRIES: u64 = 4_000_000;
 
 const MOST_AGAIN: usize = 40_000_000;
 
+/// How many calls a machine counts as that is made for them.
+const MADE_ANEW: usize = 4000;
+
 /// A call that is placed.
 #[derive(Clone, Copy)]
 struct Step {
@@ -191,7 +194,8 @@ impl Walk {
         if !self.is_spoiled {
             return Ok(true);
         }
-        let Some(left) = self.left.checked_sub(self.placed.len()) else {
+        let again = self.placed.len().saturating_add(MADE_ANEW);
+        let Some(left) = self.left.checked_sub(again) else {
             return Ok(false);
         };
         self.left = left;
