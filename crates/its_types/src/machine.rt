@@ -16,7 +16,8 @@ pub struct Word {
 pub struct Limits {
     /// 1 to 2^24 - 1. The stamp after it is 0 again.
     pub stamp_last: u32,
-    /// 1 to 2^40 - 1. Calls have the places below it.
+    /// 1 to 2^56 - 1. Calls have the places below it. A machine whose last place is past 2^40 - 1
+    /// has at most 255 as its last stamp.
     pub place_last: u64,
 }
 
