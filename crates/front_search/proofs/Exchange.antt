@@ -12,20 +12,20 @@ use Rattle.front_search.proofs.Trails.{clash, go_below}
 
 -- ---- fronts
 
-placed_other : (front : Front) (i j : ℕ) → i ≢ j → placed (more front j) i ≡ placed front i
+pub placed_other : (front : Front) (i j : ℕ) → i ≢ j → placed (more front j) i ≡ placed front i
 placed_other front i j ne = get_or-set_other front j i (placed front j + 1) 0 ne
 
-placed_same : (front : Front) (i : ℕ) → i < length front → placed (more front i) i ≡ placed front i + 1
+pub placed_same : (front : Front) (i : ℕ) → i < length front → placed (more front i) i ≡ placed front i + 1
 placed_same front i lt = get_or-set_same front i (placed front i + 1) 0 lt
 
-more_comm : (front : Front) (i j : ℕ) → j ≢ i → more (more front j) i ≡ more (more front i) j
+pub more_comm : (front : Front) (i j : ℕ) → j ≢ i → more (more front j) i ≡ more (more front i) j
 more_comm front i j ne =
     ap (λ (n : ℕ). slice_set (more front j) i (n + 1)) (placed_other front i j (λ e. ne (sym e)))
     ∙ set_comm front j i (placed front j + 1) (placed front i + 1) ne
     ∙ ap (λ (n : ℕ). slice_set (more front i) j (n + 1)) (sym (placed_other front j i ne))
 
 -- one call has one begin and one end
-one_begin : (a b : Span) (o : Option Span) → o ≡ Some a → o ≡ Some b → a.begin ≡ b.begin
+pub one_begin : (a b : Span) (o : Option Span) → o ≡ Some a → o ≡ Some b → a.begin ≡ b.begin
 one_begin a b o e f = let same : a ≡ b = cc (sym e ∙ f) in ap (λ (s : Span). s.begin) same
 
 -- ---- what a call that passes all passes

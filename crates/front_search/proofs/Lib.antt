@@ -1,4 +1,5 @@
 mod AtOnce
 mod Exchange
+mod Sleeping
 mod States
 mod Trails

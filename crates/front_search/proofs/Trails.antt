@@ -2,11 +2,13 @@
 use Rattle.std.proofs.Common.{◌≡◌, ℕ, ◌+◌, ◌-◌, ◌<◌, ◌≤◌, Bool, true, false, List, [], ◌∷◌, ◌++◌, length, map, Option, Some, None, refl, sym, ap, subst, ◌∙◌, inl, inr, arith}
 use Rattle.std.proofs.lemmas.Bool.{cases_lt}
 use Rattle.std.proofs.lemmas.List.{get_or_past, get_or-set_same, length-set, set-set, set-get_or}
-use Rattle.std.specs.Prelude.{slice_get, slice_set}
+use Rattle.std.specs.Global.{Global}
+use Rattle.std.specs.Prelude.{Vec, slice_get, slice_set}
 use Rattle.std.specs.Bool.{Decides}
 use Rattle.front_search.specs.Fits.{Answers, Leads, Fits}
 use Rattle.front_search.specs.Fronts.{Threads, Front, MayGo, IsWhole, ReturnedBefore, next_of, more, placed, start}
 use Rattle.front_search.specs.Moves.{less}
+use Rattle.front_search.specs.Sleeping.{Asleep, NoneFrom, NoneWith}
 use Rattle.front_search.specs.Trails.{IsEnough, NoneBelow, Steps, Trail}
 use Rattle.front_search.specs.declared.trail.Placed.{Placed}
 use Rattle.front_search.specs.declared.span.Span.{Span}
@@ -87,10 +89,10 @@ leads_fit went IsEnd threads front u (i ∷ order) front' u' l f = (l.0, l.1, le
 
 -- where no thread is left to begin with, and the calls aren't at their end, no order fits
 pub none_fits : {S : Type 0} (went : Answers S) (IsEnd : S → Type 0) (threads : Threads) (front : Front) (u : S) (n : ℕ) → NoneBelow went IsEnd threads front u n
-    → ((j : ℕ) → n ≤ j → ¬ MayGo threads front j) → (¬ Fits went IsEnd threads front u []) → (order : List ℕ) → ¬ Fits went IsEnd threads front u order
+    → NoneFrom went IsEnd threads front u n → (¬ Fits went IsEnd threads front u []) → (order : List ℕ) → ¬ Fits went IsEnd threads front u order
 none_fits went IsEnd threads front u n below more_none no_end [] f = no_end f
 none_fits went IsEnd threads front u n below more_none no_end (i ∷ order) f =
-    elim (cases_lt i n) [ inl lt ↦ below i order lt f | inr le ↦ more_none i le f.1.may_go ]
+    elim (cases_lt i n) [ inl lt ↦ below i order lt f | inr le ↦ more_none i le order f ]
 
 -- a call leads to one state alone
 pub not_again : {S : Type 0} (went : Answers S) (IsEnd : S → Type 0) (threads : Threads) (front : Front) (u : S) (i j : ℕ) (w : S) → j ≡ i
@@ -110,12 +112,12 @@ below_more went IsEnd threads front u p w s none =
 
 -- the least thread that may go is enough for those up to it
 pub enough_least : {S : Type 0} (went : Answers S) (IsEnd : S → Type 0) (threads : Threads) (front : Front) (u : S) (n i : ℕ) → NoneBelow went IsEnd threads front u n
-    → ((j : ℕ) → n ≤ j → j < i → ¬ MayGo threads front j) → IsEnough went IsEnd threads front u i (i + 1)
+    → ((j : ℕ) → n ≤ j → j < i → NoneWith went IsEnd threads front u j) → IsEnough went IsEnd threads front u i (i + 1)
 enough_least went IsEnd threads front u n i below between none j order lt f =
     elim (cases_lt j n) [
       | inl low ↦ below j order low f
       | inr le ↦ elim (cases_lt j i) [
-        | inl lower ↦ between j le lower f.1.may_go
+        | inl lower ↦ between j le lower order f
         | inr up ↦ let same : j ≡ i = omega arith in none order (subst (λ (k : ℕ). Fits went IsEnd threads front u (k ∷ order)) same f)
       ]
     ]
@@ -128,13 +130,16 @@ below_miss went IsEnd threads front u i n enough miss = enough (λ order f. miss
 -- ---- one step on, and one back
 
 -- a thread is found whose next call goes
-pub placed_so : {S : Type 0} (went : Answers S) (IsEnd : S → Type 0) (threads : Threads) (front : Front) (u : S) (i n : ℕ) (w : S) → MayGo threads front i
+pub placed_so : {S : Type 0} (went : Answers S) (IsEnd : S → Type 0) (threads : Threads) (front : Front) (u : S) (i n : ℕ) (asleep : Vec ℕ Global) (w : S)
+    → MayGo threads front i
     → went u i (placed front i) w → ((x : S) → went u i (placed front i) x → x ≡ w) → IsEnough went IsEnd threads front u i n
-    → Steps went IsEnd threads front u (record { thread = i; before = u; next = n }) w
-placed_so went IsEnd threads front u i n w may_go answered one enough = record {
+    → Asleep went IsEnd threads front u asleep.items
+    → Steps went IsEnd threads front u (record { thread = i; before = u; next = n; asleep = asleep }) w
+placed_so went IsEnd threads front u i n asleep w may_go answered one enough slept = record {
   goes = record { may_go = may_go; answered = answered };
   one_state = one;
   enough = enough;
+  asleep = slept;
   before = refl;
 }
 
@@ -148,11 +153,12 @@ pub record BackAt {S : Type 0} (went : Answers S) (IsEnd : S → Type 0) (thread
   pub some : 1 ≤ placed front p.thread
   pub trail : Trail went IsEnd threads (start threads) first path (less front p.thread) p.before
   pub none_below : NoneBelow went IsEnd threads (less front p.thread) p.before p.next
+  pub asleep : Asleep went IsEnd threads (less front p.thread) p.before p.asleep.items
   pub long : length (less front p.thread) ≡ length threads
 
 pub back_at : {S : Type 0} (went : Answers S) (IsEnd : S → Type 0) (threads : Threads) (first : S) (front : Front) (u : S) (n : ℕ) (path : List (Placed S))
     (p : Placed S) → Trail went IsEnd threads (start threads) first (path ++ p ∷ []) front u → length front ≡ length threads
-    → NoneBelow went IsEnd threads front u n → ((j : ℕ) → n ≤ j → ¬ MayGo threads front j) → (¬ Fits went IsEnd threads front u [])
+    → NoneBelow went IsEnd threads front u n → NoneFrom went IsEnd threads front u n → (¬ Fits went IsEnd threads front u [])
     → BackAt went IsEnd threads first front p path
 back_at {S = S} went IsEnd threads first front u n path p t long below no_more no_end =
     let b : Back went IsEnd threads (start threads) first path front u p = trail_less went IsEnd threads (start threads) first path front u p t in
@@ -170,6 +176,7 @@ back_at {S = S} went IsEnd threads first front u n path p t long below no_more n
       trail = subst (λ (f : Front). Trail went IsEnd threads (start threads) first path f p.before) (sym again) b.trail;
       none_below = subst (λ (f : Front). NoneBelow went IsEnd threads f p.before p.next) (sym again)
           (below_more went IsEnd threads b.old_front p.before p u b.steps none);
+      asleep = subst (λ (f : Front). Asleep went IsEnd threads f p.before p.asleep.items) (sym again) b.steps.asleep;
       long = ap length again ∙ long_at;
     }
 

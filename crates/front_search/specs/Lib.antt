@@ -3,4 +3,5 @@ pub mod Fits
 pub mod Fronts
 pub mod Moves
 pub mod Outcomes
+pub mod Sleeping
 pub mod Trails

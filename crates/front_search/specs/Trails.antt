@@ -2,6 +2,7 @@
 use Rattle.std.specs.Prelude.{◌≡◌, ℕ, ◌+◌, ◌^◌, ◌<◌, List, [], ◌∷◌, length}
 use Rattle.front_search.specs.Fits.{Answers, GoesTo, Leads, Fits}
 use Rattle.front_search.specs.Fronts.{Threads, Front, MayGo, more, placed, start}
+use Rattle.front_search.specs.Sleeping.{NoneWith, Asleep}
 use Rattle.front_search.specs.declared.trail.Placed.{Placed}
 use Rattle.front_search.specs.declared.trail.Search.{Search}
 
@@ -11,7 +12,7 @@ NoneBelow went IsEnd threads front u n = (i : ℕ) (order : List ℕ) → i < n 
 
 -- Where no order fits that begins with thread i, none fits that begins with one below n.
 abbrev pub IsEnough : {S : Type 0} → Answers S → (S → Type 0) → Threads → Front → S → ℕ → ℕ → Type 0
-IsEnough went IsEnd threads front u i n = ((order : List ℕ) → ¬ Fits went IsEnd threads front u (i ∷ order)) → NoneBelow went IsEnd threads front u n
+IsEnough went IsEnd threads front u i n = NoneWith went IsEnd threads front u i → NoneBelow went IsEnd threads front u n
 
 -- a placed call goes and leads to this state, and where it fails the search may go on at its next thread
 pub record Steps {S : Type 0} (went : Answers S) (IsEnd : S → Type 0) (threads : Threads) (front : Front) (u : S) (p : Placed S) (w : S) : Type 0 where
@@ -19,6 +20,7 @@ pub record Steps {S : Type 0} (went : Answers S) (IsEnd : S → Type 0) (threads
   -- it leads to no other state
   pub one_state : (x : S) → went u p.thread (placed front p.thread) x → x ≡ w
   pub enough : IsEnough went IsEnd threads front u p.thread p.next
+  pub asleep : Asleep went IsEnd threads front u p.asleep.items
   pub before : p.before ≡ u
 
 -- from a front and a state on, these calls were placed, and led to another front and state
@@ -43,6 +45,7 @@ IsReached {S = S} went threads first order = (front : Front) × (u : S) × Leads
 pub record IsAt {S : Type 0} (went : Answers S) (IsEnd : S → Type 0) (threads : Threads) (first : S) (s : Search S) : Type 0 where
   pub trail : Trail went IsEnd threads (start threads) first s.path.items s.front.items s.state
   pub none_below : NoneBelow went IsEnd threads s.front.items s.state s.next
+  pub asleep : Asleep went IsEnd threads s.front.items s.state s.asleep.items
   pub long : length s.front.items ≡ length threads
   pub reached : IsReached went threads first s.reached.items
 

@@ -62,7 +62,7 @@ fn goes_at_once<S: Drop, C: Recorded<S>>(
 }
 
 /// Whether a call, if there is one, returned no earlier than at this time.
-fn returns_later(threads: &[Listed<Span>], thread: usize, call: usize, time: u64) -> bool
+pub fn returns_later(threads: &[Listed<Span>], thread: usize, call: usize, time: u64) -> bool
     ensures { result ≡ true → ReturnsFrom threads.now thread call time }
 {
     let Some(later) = call_of(threads, thread, call) else {

@@ -1,6 +1,6 @@
 //! How many calls of each thread are placed, and which may be placed next.
 
-ghost use Rattle.std.specs.Prelude.{◌≡◌, ◌≤◌, ◌<◌, ◌+◌, ◌^◌, ℕ, true, IfSome, IfNone, length};
+ghost use Rattle.std.specs.Prelude.{◌≡◌, ◌<◌, ◌+◌, ◌^◌, true, IfSome, length};
 ghost use Rattle.std.specs.Bool.{Decides};
 ghost use Rattle.front_search.specs.Fronts as spec;
 
@@ -52,26 +52,6 @@ pub fn may_go(threads: &[Listed<Span>], front: &[usize], thread: usize) -> bool
         }
     }
     true
-}
-
-/// The least thread from this one on whose next call may be placed.
-pub fn least_from(threads: &[Listed<Span>], front: &[usize], from: usize) -> Option<usize>
-    requires { length front.now ≡ length threads.now }
-    ensures some { IfSome result (λ i. spec.MayGo threads.now front.now i) }
-    ensures from { IfSome result (λ i. from ≤ i) }
-    ensures below { IfSome result (λ i. i < length threads.now) }
-    ensures fits { IfSome result (λ i. i + 1 < 2 ^ 64) }
-    ensures counted { IfSome result (λ i. spec.placed front.now i + 1 < 2 ^ 64) }
-    ensures least { IfSome result (λ i. (j : ℕ) → from ≤ j → j < i
-        → ¬ spec.MayGo threads.now front.now j) }
-    ensures none { IfNone result ((j : ℕ) → from ≤ j → ¬ spec.MayGo threads.now front.now j) }
-{
-    for thread in from..threads.len() {
-        if may_go(threads, front, thread) {
-            return Some(thread);
-        }
-    }
-    None
 }
 
 /// Whether all calls are placed.

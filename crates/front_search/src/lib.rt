@@ -2,7 +2,9 @@
 //! and returned, that fits what they were answered.
 #![tactic(auto)]
 
+mod asleep;
 mod at_once;
+mod choose;
 mod fronts;
 mod outcome;
 mod recorded;

@@ -45,7 +45,7 @@ pub fn run_on<S: Drop, C: Recorded<S>>(
     match find(alloc, calls, threads, search, left)? {
         Some(further) => {
             let Further { thread, state } = further;
-            search.place(thread, threads.len(), state)?;
+            search.place(thread, threads.len(), state, Vec::new(alloc))?;
             search.skip(threads.len());
             Ok(true)
         }

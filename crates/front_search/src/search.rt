@@ -1,17 +1,17 @@
 //! A search in depth over fronts.
 
-ghost use Rattle.std.specs.Prelude.{◌≡◌, ◌<◌, ◌≤◌, ◌+◌, ◌*◌, ◌^◌, ℕ, true, false, []};
-ghost use Rattle.std.specs.Prelude.{◌∷◌, IfNone, IfOk, IfSome, OnOk};
-ghost use Rattle.std.specs.Prelude.{length};
+ghost use Rattle.std.specs.Prelude.{◌≡◌, ◌<◌, ◌≤◌, ◌+◌, ◌*◌, ◌^◌, true, false, []};
+ghost use Rattle.std.specs.Prelude.{IfOk, OnOk, length};
 ghost use Rattle.std.specs.Bool.{Decides};
 ghost use Rattle.front_search.specs.Fits.{Fits};
 ghost use Rattle.front_search.specs.Fronts.{MayGo, placed, start};
 ghost use Rattle.front_search.specs.Outcomes.{IfFits, IfNowhere, IfUndecided};
-ghost use Rattle.front_search.specs.Trails.{IsAt, IsEnough, IsReached, IsSomewhere, NoneBelow};
-ghost use Rattle.front_search.specs.Trails.{NoneFits};
+ghost use Rattle.front_search.specs.Sleeping.{NoneFrom};
+ghost use Rattle.front_search.specs.Trails.{IsAt, IsEnough, IsReached, IsSomewhere, NoneFits};
 
-use crate::at_once::first_at_once;
-use crate::fronts::{is_whole, least_from};
+use crate::asleep::asleep_after;
+use crate::choose::{Choice, choose};
+use crate::fronts::is_whole;
 use crate::outcome::Outcome;
 use crate::recorded::Recorded;
 use crate::run_on::run_on;
@@ -22,7 +22,8 @@ use std::alloc::{AllocError, Global};
 
 /// Looks for an order of the calls of some threads that fits what they were answered, from a first
 /// state on. It tries at most so many calls, and of those that may come next one alone where that
-/// commutes with all that may stand before it.
+/// commutes with all that may stand before it. Of orders that differ by swaps of neighbours that
+/// commute it searches one.
 pub fn find_order<S: Drop, C: Recorded<S>>(
     alloc: Global,
     calls: &C,
@@ -62,46 +63,6 @@ pub fn find_order<S: Drop, C: Recorded<S>>(
             }
         }
     }
-}
-
-/// What to try next.
-#[derive(Clone, Copy)]
-struct Choice {
-    /// Its next call is tried.
-    thread: usize,
-    /// Where no order fits in which that comes next, none fits in which a lower thread than this
-    /// one does.
-    next: usize,
-}
-
-/// What to try next: at a new front a call that goes at once, and nothing else there; where there
-/// is none, or the search came back to the front, the next thread whose call may be placed.
-fn choose<S: Drop, C: Recorded<S>>(
-    calls: &C,
-    threads: &[Listed<Span>],
-    search: &Search<S>,
-) -> Option<Choice>
-    requires long { length search.now.front.items ≡ length threads.now }
-    requires none_below { NoneBelow (C.Goes calls.now) (C.IsEnd calls.now) threads.now
-        search.now.front.items search.now.state search.now.next }
-    ensures may_go { IfSome result (λ c. MayGo threads.now search.now.front.items c.thread) }
-    ensures enough { IfSome result (λ c. IsEnough (C.Goes calls.now) (C.IsEnd calls.now)
-        threads.now search.now.front.items search.now.state c.thread c.next) }
-    ensures below { IfSome result (λ c. c.thread < length threads.now) }
-    ensures counted { IfSome result (λ c.
-        placed search.now.front.items c.thread + 1 < 2 ^ 64) }
-    ensures none { IfNone result ((j : ℕ) → search.now.next ≤ j
-        → ¬ MayGo threads.now search.now.front.items j) }
-{
-    if search.next() == 0 {
-        if let Some(thread) = first_at_once(calls, threads, search) {
-            let next = threads.len();
-            return Some(Choice { thread, next });
-        }
-    }
-    let thread = least_from(threads, search.front(), search.next())?;
-    let next = thread + 1;
-    Some(Choice { thread, next })
 }
 
 /// Whether all calls are placed, and the last of them may leave this state.
@@ -148,7 +109,8 @@ fn try_call<S: Drop, C: Recorded<S>>(
     let tried = calls.after(alloc, search.state(), thread, call)?;
     match tried {
         Some(state) => {
-            search.place(thread, next, state)?;
+            let asleep = asleep_after(alloc, calls, threads, search, thread)?;
+            search.place(thread, next, state, asleep)?;
             Ok(())
         }
         None => {
@@ -168,8 +130,8 @@ fn go_on<S: Drop, C: Recorded<S>>(
     left: &mut u64,
 ) -> Result<bool, AllocError>
     requires at { IsSomewhere (C.Goes calls.now) (C.IsEnd calls.now) threads.now search.old }
-    requires no_more { (j : ℕ) → search.old.next ≤ j
-        → ¬ MayGo threads.now search.old.front.items j }
+    requires no_more { NoneFrom (C.Goes calls.now) (C.IsEnd calls.now) threads.now
+        search.old.front.items search.old.state search.old.next }
     requires no_end { ¬ Fits (C.Goes calls.now) (C.IsEnd calls.now) threads.now
         search.old.front.items search.old.state [] }
     ensures on { IfOk result (λ b. b ≡ true → (first : S) →
@@ -202,8 +164,8 @@ fn go_back<S: Drop, C: Recorded<S>>(
     search: &mut Search<S>,
 ) -> Result<bool, AllocError>
     requires at { IsSomewhere (C.Goes calls.now) (C.IsEnd calls.now) threads.now search.old }
-    requires no_more { (j : ℕ) → search.old.next ≤ j
-        → ¬ MayGo threads.now search.old.front.items j }
+    requires no_more { NoneFrom (C.Goes calls.now) (C.IsEnd calls.now) threads.now
+        search.old.front.items search.old.state search.old.next }
     requires no_end { ¬ Fits (C.Goes calls.now) (C.IsEnd calls.now) threads.now
         search.old.front.items search.old.state [] }
     ensures back { IfOk result (λ b. b ≡ true → (first : S) →

@@ -4,6 +4,7 @@ ghost use Rattle.std.specs.Prelude.{◌||◌, ◌==◌, length, map, nat_lt, rep
 ghost use Rattle.front_search.specs.Fronts as spec;
 ghost use Rattle.front_search.specs.Moves.{IsEmpty, IsKept, IsNew, IsPlaced, IsReturned, IsSkipped};
 ghost use Rattle.front_search.specs.Moves.{IsTaken};
+ghost use Rattle.front_search.specs.Sleeping.{is_asleep};
 
 use crate::span::Span;
 use its_types::Listed;
@@ -19,6 +20,8 @@ pub struct Placed<S> {
     before: S,
     /// Where no order fits in which it comes next, none fits in which a lower thread does.
     next: usize,
+    /// The threads that slept before it.
+    asleep: Vec<usize>,
 }
 
 /// How far a search is.
@@ -32,6 +35,8 @@ pub struct Search<S> {
     state: S,
     /// No order fits in which these calls and then one of a lower thread come first.
     next: usize,
+    /// Nor one in which these calls and then one of these threads come first.
+    asleep: Vec<usize>,
     /// The longest order of calls that went and from which the search went back.
     reached: Vec<usize>,
 }
@@ -47,6 +52,7 @@ impl<S: Drop> Search<S> {
             front,
             state: first,
             next: 0,
+            asleep: Vec::new(alloc),
             reached: Vec::new(alloc),
         })
     }
@@ -70,6 +76,13 @@ impl<S: Drop> Search<S> {
         ensures { result ≡ self.now.next }
     {
         self.next
+    }
+
+    /// Whether a thread sleeps: no order fits in which its next call comes next.
+    pub fn is_asleep(&self, thread: usize) -> bool
+        ensures { result ≡ is_asleep self.now.asleep.items thread }
+    {
+        self.asleep.contains(&thread)
     }
 
     /// The longest order of calls that went and from which the search went back.
@@ -98,19 +111,27 @@ impl<S: Drop> Search<S> {
         Ok(order)
     }
 
-    /// Places the next call of a thread, which leaves this state. Where it is taken back, the
-    /// search goes on at the thread `next`.
-    pub fn place(&mut self, thread: usize, next: usize, state: S) -> Result<(), AllocError>
+    /// Places the next call of a thread, which leaves this state, in which these threads sleep.
+    /// Where it is taken back, the search goes on at the thread `next`.
+    pub fn place(
+        &mut self,
+        thread: usize,
+        next: usize,
+        state: S,
+        asleep: Vec<usize>,
+    ) -> Result<(), AllocError>
         requires below { thread < length self.old.front.items }
         requires fits { spec.placed self.old.front.items thread + 1 < 2 ^ 64 }
-        ensures { OnOk result (IsPlaced thread next state self.old self.new) }
+        ensures { OnOk result (IsPlaced thread next state asleep.items self.old self.new) }
     {
         let count = self.front[thread] + 1;
         let before = replace(&mut self.state, state);
+        let slept = replace(&mut self.asleep, asleep);
         self.path.push(Placed {
             thread,
             before,
             next,
+            asleep: slept,
         })?;
         self.front[thread] = count;
         self.next = 0;
@@ -161,10 +182,12 @@ impl<S: Drop> Search<S> {
             thread,
             before,
             next,
+            asleep,
         } = last;
         let count = self.front[thread] - 1;
         self.front[thread] = count;
         self.next = next;
+        self.asleep = asleep;
         self.state = before;
     }
 }
