@@ -17,6 +17,7 @@ use owned_parts::RedistSet;
 
 /// Takes the configurations of a set out that the machine has, the lowest first, and puts them in
 /// their places.
+#[inline(always)]
 pub fn take_confs<T: Turns>(
     how: &T,
     machine: &Machine,
@@ -48,6 +49,7 @@ pub fn take_confs<T: Turns>(
 }
 
 /// Puts them back, the highest first. Their places are empty then.
+#[inline(always)]
 pub fn put_confs(machine: &Machine, pass: &mut Pass, set: RedistSet, redists: &mut Redists)
     requires of { IsOf machine.now pass.old }
     requires hand { AreConfsOfSet (setup machine.now) set redists.old }
@@ -65,6 +67,7 @@ pub fn put_confs(machine: &Machine, pass: &mut Pass, set: RedistSet, redists: &m
 }
 
 /// Of a set those below a number, the highest first.
+#[inline(always)]
 pub(crate) fn put_first_confs(
     machine: &Machine,
     pass: &mut Pass,

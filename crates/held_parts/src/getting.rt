@@ -19,6 +19,7 @@ use owned_parts::Translator;
 use xlate_cache::Shard;
 
 /// Takes a translator's registers and maps out.
+#[inline(always)]
 pub fn take_maps<T: Turns>(how: &T, machine: &Machine, pass: &mut Pass, its: u8) -> Box<Translator>
     requires of { IsOf machine.now pass.old }
     requires stands { its < translator_count (setup machine.now) }
@@ -36,6 +37,7 @@ pub fn take_maps<T: Turns>(how: &T, machine: &Machine, pass: &mut Pass, its: u8)
 }
 
 /// Takes guest memory out, with empty places for redistributors.
+#[inline(always)]
 pub fn take_memory<T: Turns>(how: &T, machine: &Machine, pass: &mut Pass) -> Box<GuestMemory>
     requires of { IsOf machine.now pass.old }
     requires order { IsInOrder part.Mem (view pass.old).held }
@@ -76,6 +78,7 @@ pub fn take_shard<T: Turns>(
 }
 
 /// Takes the configuration of a redistributor out, with its LPI registers.
+#[inline(always)]
 pub fn take_conf<T: Turns>(how: &T, machine: &Machine, pass: &mut Pass, vcpu: Vcpu) -> Box<Conf>
     requires of { IsOf machine.now pass.old }
     requires stands { vcpu.0 < vcpu_count (setup machine.now) }
@@ -94,6 +97,7 @@ pub fn take_conf<T: Turns>(how: &T, machine: &Machine, pass: &mut Pass, vcpu: Vc
 }
 
 /// Takes what is pending at a redistributor out.
+#[inline(always)]
 pub fn take_pend<T: Turns>(how: &T, machine: &Machine, pass: &mut Pass, vcpu: Vcpu) -> Box<Pend>
     requires of { IsOf machine.now pass.old }
     requires stands { vcpu.0 < vcpu_count (setup machine.now) }

@@ -17,6 +17,7 @@ use owned_parts::RedistSet;
 
 /// Takes what is pending at a set of processors out, so far as the machine has them, the lowest
 /// first, and puts it in its places.
+#[inline(always)]
 pub fn take_pends<T: Turns>(
     how: &T,
     machine: &Machine,
@@ -48,6 +49,7 @@ pub fn take_pends<T: Turns>(
 }
 
 /// Puts it back, the highest first. Its places are empty then.
+#[inline(always)]
 pub fn put_pends(machine: &Machine, pass: &mut Pass, set: RedistSet, redists: &mut Redists)
     requires of { IsOf machine.now pass.old }
     requires hand { ArePendsOfSet (setup machine.now) set redists.old }
@@ -65,6 +67,7 @@ pub fn put_pends(machine: &Machine, pass: &mut Pass, set: RedistSet, redists: &m
 }
 
 /// What is pending at those of a set below a number, the highest first.
+#[inline(always)]
 pub(crate) fn put_first_pends(
     machine: &Machine,
     pass: &mut Pass,

@@ -54,6 +54,7 @@ pub struct Waiting<'a, R: Wait> {
 impl<'a, R: Wait> Turns for Waiting<'a, R> {
     ghost allowed = { λ _. Unit {0} };
 
+    #[inline(always)]
     fn turn(&self, machine: &Machine, pass: &mut Pass, part: Part) -> Value {
         // It is mostly free, and then no loop is begun.
         match try_take(machine, pass, part) {

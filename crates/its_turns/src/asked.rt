@@ -101,6 +101,10 @@ impl Machine {
         ensures stands { (its : ℕ) → its < translator_count (setup self.now)
             → Stands (setup self.now) (part.Shard its result) }
     {
-        shard_of(dev, ev, self.desc.shards)
+        match self.desc.shards {
+            // No division: most machines have so many.
+            64 => shard_of(dev, ev, 64),
+            shards => shard_of(dev, ev, shards),
+        }
     }
 }

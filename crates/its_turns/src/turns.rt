@@ -59,6 +59,7 @@ fn try_turn<A: Chooses>(
 
 /// Tries the turn of a part once, and takes its value out. All that the pass holds comes before the
 /// part.
+#[inline(always)]
 pub fn try_take(machine: &Machine, pass: &mut Pass, part: Part) -> Result<Value, Busy>
     requires of { IsOf machine.now pass.old }
     requires stands { Stands (setup machine.now) part }
@@ -132,7 +133,8 @@ impl Machine {
     ghost use Rattle.its_steps.specs.Parts.{Stands, index_of};
     ghost use Rattle.its_turns.specs.Machines.{setup};
 
-    // The number of a part.
+    // The number of a part. Mostly its kind is known where this is called, and then little is left.
+    #[inline(always)]
     fn index(&self, part: Part) -> usize
         requires { Stands (setup self.now) part }
         ensures index { result ≡ index_of (setup self.now) part }
