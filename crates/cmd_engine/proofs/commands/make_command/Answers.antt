@@ -1,4 +1,4 @@
-use Rattle.std.proofs.Common.{◌≡◌, Bool, ◌&&◌, Some, ap, sym, ◌∙◌, refl}
+use Rattle.std.proofs.Common.{Some, ap, sym, ◌∙◌, refl}
 use Rattle.its_plain.specs.declared.call.Call.TheVariants as call
 use Rattle.its_plain.specs.declared.call.CmdReply.{CmdReply}
 use Rattle.its_plain.specs.declared.call.Reply.TheVariants as reply
