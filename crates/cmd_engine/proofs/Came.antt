@@ -25,7 +25,7 @@ use Rattle.held_parts.specs.Taking.{Goes, WasMade, holding}
 use Rattle.held_parts.proofs.Going.{got_then, going_looked, going_home, going_made, going_read, going_then, going_stays, going_lost, loses_home}
 use Rattle.cmd_engine.specs.Cached.{commit_of, LeavesBy}
 use Rattle.cmd_engine.specs.Leaving.{LeavesAs, OthersStay, EndsAs, MadeAs}
-use Rattle.cmd_engine.specs.Telling.{CallWants, IsWhyWith, ReadLow, IsRaceOf, ComesWith, Comes, AsksUntilMade}
+use Rattle.cmd_engine.specs.Telling.{CallWants, MayBeFull, IsWhyWith, ReadLow, IsRaceOf, ComesWith, Comes, AsksUntilMade}
 use Rattle.cmd_engine.specs.declared.cached.Mark.{Mark}
 use Rattle.cmd_engine.specs.declared.missed.Missed.{Missed}
 use Rattle.cmd_engine.specs.declared.missed.Missed.TheVariants as missed
@@ -45,7 +45,7 @@ head_or a [] = a
 head_or a (x ∷ xs) = x
 
 -- lists that end with one more are the same before it
-same_before : (xs ys : List Entry) (a b : Entry) → xs ++ a ∷ [] ≡ ys ++ b ∷ [] → xs ≡ ys
+pub same_before : (xs ys : List Entry) (a b : Entry) → xs ++ a ∷ [] ≡ ys ++ b ∷ [] → xs ≡ ys
 same_before [] [] a b e = refl
 same_before [] (y ∷ ys) a b e = absurd (length_one ys b (ap tail_of e))
 same_before (x ∷ xs) [] a b e = absurd (length_one xs a (sym (ap tail_of e)))
@@ -130,6 +130,9 @@ module _ (P : Part → Type 0) (v y : View) (bare : v.held ≡ []) (goes : Goes 
         (Err missed.NoMemory)
     came_no_memory c reply wants = (goes_on, (read_last, subst (λ (k : Setup). CallWants (after k.start x.seen) c) (own ∙ sym here) wants))
 
+    pub came_full : {T : Type 0} (c : Call) (reply : T → Reply) → MayBeFull c → ComesWith {T = T} late P v c reply x (Err missed.Full)
+    came_full c reply may = (goes_on, (read_last, may))
+
     pub came_late : {T : Type 0} (c : Call) (reply : T → Reply) → stamp_of s w (its_of c) ≡ s.limits.stamp_last → late → ComesWith {T = T} late P v c reply x
         (Err missed.Late)
     came_late c reply is known = (
@@ -148,6 +151,7 @@ module _ (P : Part → Type 0) (v y : View) (bare : v.held ≡ []) (goes : Goes 
       came_raced c reply missed.Spent race = absurd race
       came_raced c reply missed.NoMemory race = absurd race
       came_raced c reply missed.Late race = absurd race
+      came_raced c reply missed.Full race = absurd race
       came_raced c reply (missed.Raced r) race = (
         going_looked P v x z r.found goes_on race.looks,
         going_lost P v y goes bare (lost.Raced r) z
@@ -253,6 +257,7 @@ IsWhy v c m w = IsWhyWith (ReadLow v (its_of c) w) v c m w
 late_why : (a b : Type 0) (v w : View) (c : Call) (m : Missed) → (a → b) → IsWhyWith a v c m w → IsWhyWith b v c m w
 late_why a b v w c missed.Spent f why = why
 late_why a b v w c missed.NoMemory f why = why
+late_why a b v w c missed.Full f why = why
 late_why a b v w c (missed.Raced r) f why = record { room = why.room; later = why.later; read = why.read; last = why.last; out = why.out }
 late_why a b v w c missed.Late f why = (why.0, why.1, f why.2)
 
@@ -317,6 +322,7 @@ module _ (P : Part → Type 0) where
   why_home : (v w : View) (c : Call) (m : Missed) (left : List Held) → IsWhy v c m w → IsWhy v c m (holding w left)
   why_home v w c missed.Spent left why = loses_home v lost.Spent w left why
   why_home v w c missed.NoMemory left why = (looked_home v w w.last left why.0, why.1)
+  why_home v w c missed.Full left why = (looked_home v w w.last left why.0, why.1)
   why_home v w c (missed.Raced r) left why = loses_home v (lost.Raced r) w left why
   why_home v w c missed.Late left why = (
     looked_home v w w.last left why.0,

@@ -1,27 +1,33 @@
 -- A step's command on what is in hand: what each of its calls needs, and what it leaves.
-use Rattle.std.proofs.Common.{◌≡◌, ◌<◌, ℕ, Bool, true, nat_lt, List, [], ◌∷◌, length, Option, Some, Result, Ok, Err, refl, ap, sym, ◌∙◌, subst}
+use Rattle.std.proofs.Common.{◌≡◌, ◌<◌, ℕ, Bool, true, false, not, ◌&&◌, nat_lt, List, [], ◌∷◌, length, Option, Some, Result, Ok, Err, refl, ap, sym, ◌∙◌, subst}
 use Rattle.std.specs.List.{AllByRecursion}
-use Rattle.std.specs.Prelude.{is_some, Box}
+use Rattle.std.specs.Prelude.{is_some, is_ok, Box}
 use Rattle.std.specs.Global.{Global}
 use Rattle.std.specs.Result.{is_err, OnErr}
 use Rattle.std.proofs.lemmas.Bool.{and_from, lt-ltb}
 use Rattle.std.proofs.lemmas.Option.{get_or_from_slice_get}
 use Rattle.dirty_log.specs.declared.tracked.Tracked.{Tracked}
 use Rattle.guest_windows.specs.Windows.{Window}
+use Rattle.its_command.specs.Commands.{op_of}
+use Rattle.its_command.specs.declared.command.Op.{Op}
 use Rattle.its_command.specs.declared.command.Command.{Command}
 use Rattle.its_types.specs.Maps.{Maps as MapsOf}
 use Rattle.its_types.specs.declared.machine.Part.{Part}
 use Rattle.its_types.specs.declared.machine.Part.TheVariants as part
 use Rattle.its_types.specs.declared.machine.Shape.{Shape}
 use Rattle.its_types.specs.declared.machine.Word.{Word}
-use Rattle.its_plain.specs.Answer.{left}
+use Rattle.its_plain.specs.Answer.{left, next_bytes, command_reply}
+use Rattle.its_plain.specs.Commands.{ran}
 use Rattle.its_plain.specs.History.{after}
-use Rattle.its_plain.specs.Plain.{Plain, Translator, translator, no_translator}
+use Rattle.its_plain.specs.Plain.{Plain, Translator, translator, no_translator, maps_of}
 use Rattle.its_plain.specs.declared.call.Call.TheVariants as call
 use Rattle.its_plain.specs.declared.call.CmdReply.{CmdReply}
 use Rattle.its_plain.specs.declared.call.CmdReply.TheVariants as answers
 use Rattle.its_plain.specs.declared.call.Reply.{Reply}
+use Rattle.its_plain.specs.declared.call.Reason.{Reason}
 use Rattle.its_plain.specs.declared.call.Reply.TheVariants as reply
+use Rattle.its_plain.specs.declared.call.StepReply.{StepReply}
+use Rattle.its_plain.specs.declared.call.StepReply.TheVariants as steps
 use Rattle.its_plain.specs.Parts.{conf, pend}
 use Rattle.its_plain.specs.Plain.{ConfState, PendState}
 use Rattle.lpi_pending.specs.InHand.{RedistParts, conf_in, pend_in, HasLpisOfConf, HasLpisOfPend}
@@ -53,12 +59,13 @@ use Rattle.held_parts.proofs.RedistRows.{conf_kind, pend_kind, part_holds, parts
 use Rattle.its_steps.specs.World.{out as out_of}
 use Rattle.cmd_engine.specs.Cached.{ending_as, ending_said, cached_held, AreWhole, commit_of, LeavesBy, MayMarkSaid, AreChanged}
 use Rattle.cmd_engine.specs.Hands.{Memory, redists_of, memory_held, base_held, redists_held, all_held, windows_of, HasRoom, HasInHand, HasNeeded}
+use Rattle.cmd_engine.specs.Rules.{Rule, is_forbidden, met_forbidden, has_run}
 use Rattle.cmd_engine.specs.Telling.{WantsMemory}
 use Rattle.cmd_engine.specs.declared.cached.Cached.{Cached}
 use Rattle.cmd_engine.specs.declared.cached.Mark.{Mark}
 use Rattle.cmd_engine.specs.declared.hands.Hands.{Hands}
 use Rattle.cmd_engine.proofs.Held.{all_out, holds_maps, holds_base, holds_redists, holds_read, holds_cached}
-use Rattle.cmd_engine.proofs.InState.{AreOut, HoldsBase, HoldsRedists, track_is, parts, busy, bytes_are, parts_left, command_ready, command_ends}
+use Rattle.cmd_engine.proofs.InState.{AreOut, HoldsBase, HoldsRedists, translator_is, track_is, parts, busy, bytes_are, parts_left, command_ready, command_ends}
 use Rattle.cmd_engine.proofs.Marks.{HoldsShards, marked_may, within_after, holds_shards, Makes, stays_makes, mark_makes}
 use Rattle.cmd_engine.proofs.Reading.{state_machine, state_right, read_held, read_setup, read_within, owed_after}
 use Rattle.cmd_engine.proofs.Tracks.{track_after}
@@ -66,6 +73,21 @@ use Rattle.cmd_engine.proofs.Tracks.{track_after}
 pub if_err : {A E P : Type 0} (r : Result A E) → is_err r ≡ true → OnErr r P → P
 if_err (Ok a) is p = absurd cc
 if_err (Err e) is p = p
+
+-- whether a step took a command that wasn't refused
+abbrev step_ran : StepReply → Bool
+step_ran (steps.Ran op) = true
+step_ran (steps.Refused op why) = false
+step_ran (steps.QueueFault addr) = false
+step_ran steps.Idle = false
+
+said_ran : (said : CmdReply) → step_ran (as_step said) ≡ has_run said
+said_ran (answers.Ran op) = refl
+said_ran (answers.Refused op why) = refl
+
+result_ran : (op : Op) (r : Result Plain Reason) → step_ran (command_reply op r) ≡ is_ok r
+result_ran op (Ok u) = refl
+result_ran op (Err why) = refl
 
 -- a command that is refused ends nothing
 said_shards : (s : Setup) (its : ℕ) (c : Cached) (said : CmdReply) (m : Mark) (held : List Held) → HoldsShards s its (ending_as c) m held
@@ -149,6 +171,26 @@ module _ (s : Setup) (stamps : HasStamps s) (v : View) (h : Hands) (has : HasInH
       adds = subst (λ (z : Command). adds_to u its z ≡ true) (sym meets.command)
           (sym (alike u its (subst (λ (z : Shape). ArePartsOf u its z t.regs t.maps memory rs) (sym same) parts_in)) ∙ is);
     }
+
+    -- what a rule says of the step there
+    forbidden_here : (shape : Shape) → shape ≡ s.start.layout.shape → (said : CmdReply) → IsReplyTo cmd shape t.regs t.maps memory rs said → (q : Rule)
+        → is_forbidden q u its ≡ (has_run said && q t.maps cmd)
+    unfolding is_forbidden
+    forbidden_here shape same said replies q =
+        let replied : as_step said ≡ command_reply (op_of cmd) (ran u its cmd) =
+        replies u its (subst (λ (z : Shape). ArePartsOf u its z t.regs t.maps memory rs) (sym same) parts_in) in
+        let ran_is : is_ok (ran u its cmd) ≡ has_run said =
+        sym (result_ran (op_of cmd) (ran u its cmd)) ∙ (sym (ap step_ran replied) ∙ said_ran said) in
+        let maps_are : maps_of u its ≡ t.maps = ap (λ (y : Translator). y.maps) (translator_is s u w held m right out its t memory track base) in
+        ap (λ (b : Bool). not b && met_forbidden q u its (next_bytes u its)) (busy s u w held m right out its t memory track base rs hand cmd meets)
+        ∙ (ap (met_forbidden q u its) (bytes_are s u w held m right out its t memory track base rs hand cmd meets)
+        ∙ (ap (λ (z : Command). is_ok (ran u its z) && q (maps_of u its) z) meets.command
+        ∙ (λ d. ran_is d && q (maps_are d) cmd)))
+
+    pub forbidden_in : (shape : Shape) → shape ≡ s.start.layout.shape → (said : CmdReply) → IsReplyTo cmd shape t.regs t.maps memory rs said → (q : Rule)
+        → is_forbidden q (after s.start x.seen) its ≡ (has_run said && q t.maps cmd)
+    forbidden_in shape same said replies q = ap (λ (y : Setup). is_forbidden q (after y.start x.seen) its) (sym own)
+        ∙ forbidden_here shape same said replies q
 
     -- to carry it out
     pub sound_in : (shape : Shape) (maps : MapsOf) → shape ≡ s.start.layout.shape → maps ≡ t.maps → ArePartsOfSound shape t.regs maps memory rs

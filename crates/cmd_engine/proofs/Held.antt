@@ -25,7 +25,7 @@ use Rattle.its_turns.proofs.Ordering.{in_order_free}
 use Rattle.held_parts.specs.Redists.{at_place, row_of, held_if_in, conf_held, pend_held, confs_held, AreNone, AreWanted, AreNoConfs, AreNoPends}
 use Rattle.held_parts.specs.Redists.{AreBeforeConfs, AreBeforePends}
 use Rattle.held_parts.specs.Rows.{in_row}
-use Rattle.held_parts.specs.Shards.{Ways, shard_held, AreBeforeShards}
+use Rattle.held_parts.specs.Shards.{AreBeforeShards}
 use Rattle.held_parts.proofs.InRows.{row_short, row_none}
 use Rattle.held_parts.proofs.RedistRows.{conf_kind, pend_kind, parts_hold, parts_owe, part_owed, parts_before, parts_out, parts_apart, parts_stand}
 use Rattle.held_parts.proofs.ShardRows.{shards_owe, shards_before, shards_out, shards_apart, shards_stand}

@@ -1,5 +1,5 @@
 -- A state that has what a step has in hand: what it is answered there, what it ends, and what it leaves.
-use Rattle.std.proofs.Common.{◌≡◌, ◌<◌, ℕ, suc, Bool, false, not, ◌||◌, cond, Option, Some, List, [], ◌∷◌, slice_get, refl, ap, sym, ◌∙◌, subst}
+use Rattle.std.proofs.Common.{◌≡◌, ◌<◌, ℕ, suc, Bool, false, not, ◌||◌, ◌&&◌, cond, Option, Some, List, [], ◌∷◌, slice_get, refl, ap, sym, ◌∙◌, subst}
 use Rattle.std.specs.List.{AllByRecursion}
 use Rattle.std.proofs.lemmas.Option.{get_or_from_slice_get}
 use Rattle.guest_windows.specs.Windows.{Window, read_at}
@@ -43,6 +43,7 @@ use Rattle.its_steps.proofs.Assembled.{right_had}
 use Rattle.its_steps.proofs.Owed.{owes_all, owes_holds}
 use Rattle.its_steps.proofs.Told.{told}
 use Rattle.cmd_exec.specs.Met.{MeetsCommand, MeetsNone}
+use Rattle.cmd_engine.specs.Rules.{Rule, is_forbidden, met_forbidden}
 
 -- the parts held are different parts of the machine, all out of their slots
 pub record AreOut (s : Setup) (held : List Held) : Type 0 where
@@ -73,14 +74,16 @@ record IsStill (u : Plain) (i : ℕ) (r : StepReply) : Type 0 where
   reply_is : r ≡ step_reply u i
   left_is : step_left u i ≡ u
   ends : ending_of u (call.Step i) ≡ Nothing
+  allowed : (q : Rule) → is_forbidden q u i ≡ false
 
 still_in : (u : Plain) (i : ℕ) (r : StepReply) → MeetsNone (translator u i).regs u.memory r → IsStill u i r
-unfolding step_reply step_left ending_of
+unfolding step_reply step_left ending_of is_forbidden
 still_in u i Idle h = record {
   needs_none = rw h refl;
   reply_is = sym (ap (λ (b : Bool). cond b Idle (met_reply u i (next_bytes u i))) h);
   left_is = ap (λ (b : Bool). cond b u (met_left u i (next_bytes u i))) h;
   ends = ap (λ (b : Bool). cond b Nothing (ending_met u i (next_bytes u i))) h;
+  allowed = λ q. ap (λ (b : Bool). not b && met_forbidden q u i (next_bytes u i)) h;
 }
 still_in u i (QueueFault addr) h = record {
   needs_none = rw (h.0, h.2) refl;
@@ -89,6 +92,7 @@ still_in u i (QueueFault addr) h = record {
       (sym h.1)));
   left_is = ap (λ (b : Bool). cond b u (met_left u i (next_bytes u i))) h.0 ∙ ap (met_left u i) h.2;
   ends = ap (λ (b : Bool). cond b Nothing (ending_met u i (next_bytes u i))) h.0 ∙ ap (ending_met u i) h.2;
+  allowed = λ q. ap (λ (b : Bool). not b && met_forbidden q u i (next_bytes u i)) h.0 ∙ ap (met_forbidden q u i) h.2;
 }
 still_in u i (Ran op) h = absurd h
 still_in u i (Refused op why) h = absurd h
@@ -143,6 +147,9 @@ module _ (s : Setup) (u : Plain) (w : Word) (held : List Held) (machine : IsOfMa
 
     pub still_ends : ending_of u (call.Step its) ≡ Nothing
     still_ends = still.ends
+
+    pub still_allowed : (q : Rule) → is_forbidden q u its ≡ false
+    still_allowed = still.allowed
 
     pub still_left : left u (call.Step its) (reply.Step r) ≡ u
     unfolding left

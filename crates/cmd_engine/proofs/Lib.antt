@@ -11,3 +11,4 @@ pub mod Written
 pub mod Getting
 pub mod Trying
 pub mod Kept
+pub mod Ruled

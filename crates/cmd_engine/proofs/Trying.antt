@@ -184,6 +184,7 @@ module _ (P : Part → Type 0) where
     tries_once (Ok (Ok p)) came = ((asks_made P v v w bare (going_first P v) c reply home p came.0).0, came.1)
     tries_once (Ok (Err missed.Spent)) came = was_missed missed.Spent came.0 came.1
     tries_once (Ok (Err missed.NoMemory)) came = was_missed missed.NoMemory came.0 came.1
+    tries_once (Ok (Err missed.Full)) came = was_missed missed.Full came.0 came.1
     tries_once (Ok (Err (missed.Raced r))) came = was_missed (missed.Raced r) came.0 came.1
     tries_once (Ok (Err missed.Late)) came = was_missed missed.Late came.0 came.1
     tries_once (Err b) came = record {

@@ -1,5 +1,5 @@
 -- A step that meets no command.
-use Rattle.std.proofs.Common.{◌≡◌, ◌<◌, ℕ, true, List, Option, Some, None, refl, ap, sym, ◌∙◌, subst}
+use Rattle.std.proofs.Common.{◌≡◌, ◌<◌, ℕ, true, false, List, Option, Some, None, refl, ap, sym, ◌∙◌, subst}
 use Rattle.std.specs.List.{AllByRecursion}
 use Rattle.std.specs.Prelude.{Box, is_some}
 use Rattle.std.specs.Global.{Global}
@@ -27,9 +27,10 @@ use Rattle.its_turns.specs.Told.{Looks, Commits}
 use Rattle.its_turns.specs.declared.value.GuestMemory.{GuestMemory}
 use Rattle.cmd_engine.specs.Cached.{commit_of, mark_of, LeavesBy}
 use Rattle.cmd_engine.specs.Hands.{all_held, windows_of, HasInHand}
+use Rattle.cmd_engine.specs.Rules.{Rule, is_forbidden}
 use Rattle.cmd_engine.specs.declared.hands.Hands.{Hands}
 use Rattle.cmd_engine.proofs.Held.{all_out, holds_maps, holds_base}
-use Rattle.cmd_engine.proofs.InState.{AreOut, HoldsBase, still_ready, still_ends, still_left}
+use Rattle.cmd_engine.proofs.InState.{AreOut, HoldsBase, still_ready, still_ends, still_left, still_allowed}
 use Rattle.cmd_engine.proofs.Marks.{HoldsShards, marked_may, within_after}
 use Rattle.cmd_engine.proofs.Reading.{state_machine, state_right, read_held, read_setup, read_within, owed_after, renewed_same}
 
@@ -76,6 +77,11 @@ module _ (s : Setup) (stamps : HasStamps s) (v : View) (h : Hands) (has : HasInH
 
   ends : ending_of u (call.Step its) ≡ Nothing
   ends = still_ends s u w held m right out its t b.value.memory b.value.track base k none
+
+  -- no rule forbids it
+  pub still_keeps : (q : Rule) → is_forbidden q (after s.start x.seen) its ≡ false
+  still_keeps q = ap (λ (y : Setup). is_forbidden q (after y.start x.seen) its) (sym own)
+      ∙ still_allowed s u w held m right out its t b.value.memory b.value.track base k none q
 
   pub still_leaves : LeavesBy s its (ending_of u (call.Step its)) w (mark_of w.stamp change.Keep)
   still_leaves = subst (λ (e : Ending). LeavesBy s its e w (mark_of w.stamp change.Keep)) (sym ends) (refl, refl)

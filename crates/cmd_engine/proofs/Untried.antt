@@ -18,4 +18,5 @@ pub raced_tries : (v w : View) (z : Word) (m : Missed) → IsRaceOf v z m w → 
 raced_tries v w z missed.Spent race = absurd race
 raced_tries v w z missed.NoMemory race = absurd race
 raced_tries v w z missed.Late race = absurd race
+raced_tries v w z missed.Full race = absurd race
 raced_tries v w z (missed.Raced r) race = looked_tries v w r.found race.looks

@@ -44,10 +44,16 @@ abbrev pub CallWants : Plain → Call → Type 0
 CallWants u (call.Step its) = WantsMemory u its
 CallWants u c = ⊥
 
+-- a rule is of steps alone
+abbrev pub MayBeFull : Call → Type 0
+MayBeFull (call.Step its) = Unit {0}
+MayBeFull c = ⊥
+
 -- Why a try was not made. Each time the word was read in it. Where the stamp was found to be the last one, this is known too
 abbrev pub IsWhyWith : Type 0 → View → Call → Missed → View → Type 0
 IsWhyWith late v c missed.Spent w = FindsSpent v w
 IsWhyWith late v c missed.NoMemory w = HasLooked v w.last w × CallWants (after v.setup.start w.seen) c
+IsWhyWith late v c missed.Full w = HasLooked v w.last w × MayBeFull c
 IsWhyWith late v c (missed.Raced r) w = LosesRace v r w
 IsWhyWith late v c missed.Late w = HasLooked v w.last w × (stamp_of v.setup w.last (its_of c) ≡ v.setup.limits.stamp_last) × late
 

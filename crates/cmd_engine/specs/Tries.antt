@@ -88,6 +88,7 @@ abbrev pub tried_of : {T : Type 0} â†’ Result (Result (Placed T) Missed) Busy â†
 tried_of (Ok (Ok p)) = tried.Done p
 tried_of (Ok (Err missed.Spent)) = tried.Spent
 tried_of (Ok (Err missed.NoMemory)) = tried.NoMemory
+tried_of (Ok (Err missed.Full)) = tried.Full
 tried_of (Ok (Err (missed.Raced r))) = tried.Raced r
 tried_of (Ok (Err missed.Late)) = tried.Late
 tried_of (Err b) = tried.Busy b
@@ -113,3 +114,4 @@ TriesOnce P v c reply w (tried.Raced r) = WasMissed P v c (missed.Raced r) w
 TriesOnce P v c reply w tried.Late = WasMissed P v c missed.Late w
 TriesOnce P v c reply w tried.Spent = WasMissed P v c missed.Spent w
 TriesOnce P v c reply w tried.NoMemory = WasMissed P v c missed.NoMemory w
+TriesOnce P v c reply w tried.Full = WasMissed P v c missed.Full w

@@ -8,26 +8,29 @@ ghost use Rattle.its_turns.specs.Machines.{setup, view, IsOf, AreWithin};
 ghost use Rattle.cmd_exec.specs.Met.{MeetsCommand};
 ghost use Rattle.cmd_engine.specs.Cached.{ending_as, IsAny, MayMarkSaid};
 ghost use Rattle.cmd_engine.specs.Hands.{HasInHand, HasNeeded, IsOfStep, windows_of};
+ghost use Rattle.cmd_engine.specs.Rules.{KeepsTo};
 ghost use Rattle.cmd_engine.specs.Telling.{ComesFromShards};
 
 use crate::cached::{Cached, Mark};
 use crate::commits::commit_marked;
 use crate::hands::Hands;
 use crate::missed::Missed;
+use crate::rule::{MapRule, is_forbidden};
 use cmd_exec::{apply, make_room, plan};
 use its_command::Command;
 use its_plain::{Call, CmdReply, Reply, StepReply};
 use its_turns::{GuestMemory, Machine, Pass, begin};
 use its_types::{Gate, Placed, Word};
 
-/// Tries once to make a step that takes the command, and carries that out. What it needs is in
-/// hand. Where no step is made, what is mapped and held stays as it was.
-pub(crate) fn make_command<G: Gate>(
+/// Tries once to make a step that takes the command, unless the rule forbids it, and carries that
+/// out. What it needs is in hand. Where no step is made, what is mapped and held stays as it was.
+pub(crate) fn make_command<G: Gate, L: MapRule>(
     machine: &Machine,
     pass: &mut Pass,
     gate: &G,
     command: &Command,
     hands: &mut Hands,
+    rule: &L,
 ) -> Result<Placed<StepReply>, Missed>
     requires of { IsOf machine.now pass.old }
     requires hands { HasInHand (setup machine.now) (view pass.old) hands.old }
@@ -42,6 +45,8 @@ pub(crate) fn make_command<G: Gate>(
     ensures tries { (view pass.new).tries ≡ (view pass.old).tries }
     ensures comes { ComesFromShards hands.old.cached (IsOfStep hands.old.its) (view pass.old)
         (call.Step hands.old.its) reply.Step (view pass.new) result }
+    ensures rule { KeepsTo (L.forbidden rule.now) (setup machine.now).start hands.old.its
+        (view pass.new).seen result }
 {
     let Ok(word) = begin(machine, pass) else {
         return Err(Missed::Spent);
@@ -64,11 +69,15 @@ pub(crate) fn make_command<G: Gate>(
         redists,
         shape,
     );
+    let said = planned.reply();
+    if is_forbidden(rule, &translator.maps, command, said) {
+        return Err(Missed::Full);
+    }
     if make_room(&planned, &mut translator.maps).is_err() {
         return Err(Missed::NoMemory);
     }
     let reply = planned.step_reply();
-    let Some(mark) = mark_of(&hands.cached, machine, hands.its, word, planned.reply()) else {
+    let Some(mark) = mark_of(&hands.cached, machine, hands.its, word, said) else {
         return Err(Missed::Late);
     };
     let call = Call::Step { its: hands.its };

@@ -12,6 +12,7 @@ mod endings;
 mod hands;
 mod missed;
 mod reads;
+mod rule;
 mod steps;
 mod still;
 mod taking;
@@ -22,7 +23,8 @@ mod writes;
 mod writing;
 
 pub use reads::{read_at, read_reg, try_read_at, try_read_reg};
+pub use rule::MapRule;
 pub use steps::{step, step_at};
 pub use tried::Tried;
-pub use tries::{try_step, try_step_at, try_write_at, try_write_reg};
+pub use tries::{try_step, try_step_at, try_step_within, try_write_at, try_write_reg};
 pub use writes::{write_at, write_reg};

@@ -8,6 +8,8 @@ pub(crate) enum Missed {
     Spent,
     /// The next command adds a device, a collection or an event, and there was no memory for it.
     NoMemory,
+    /// A rule forbids the next command.
+    Full,
     /// Another call was made first.
     Raced(Raced),
     /// The translator's stamp, which was to rise, is the last one by now.

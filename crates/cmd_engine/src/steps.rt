@@ -11,11 +11,13 @@ ghost use Rattle.its_steps.specs.World.{out};
 ghost use Rattle.its_turns.specs.Machines.{setup, view, IsOf};
 ghost use Rattle.its_turns.specs.Told.{HasStood};
 ghost use Rattle.cmd_engine.specs.Hands.{HasInHand, IsBase, IsOfStep, memory_held};
+ghost use Rattle.cmd_engine.specs.Rules.{NeverFull};
 ghost use Rattle.cmd_engine.specs.Telling.{Comes, ComesFrom, Steps};
 
 use crate::commands::make_command;
 use crate::hands::{Hands, put_taken};
 use crate::missed::Missed;
+use crate::rule::NoRule;
 use crate::still::make_still;
 use crate::taking::take_needed;
 use cmd_exec::{Met, meet};
@@ -52,6 +54,7 @@ pub fn step_at<R: Wait, G: Gate>(
             Ok(placed) => return Ok(placed),
             Err(Missed::Spent) => return Err(NotMade::Spent),
             Err(Missed::NoMemory) => return Err(NotMade::NoMemory),
+            Err(Missed::Full) => unreachable!(),
             Err(Missed::Raced(_) | Missed::Late) => pause(attempt),
         }
     }
@@ -98,6 +101,7 @@ fn step_once<R: Wait, G: Gate>(
     ensures free { (view pass.new).held ≡ [] }
     ensures comes { Comes (IsOfStep its) (view pass.old) (call.Step its) reply.Step
         (view pass.new) result }
+    ensures never_full { NeverFull result }
 {
     let translator = take_maps(&Waiting { rt }, machine, pass, its);
     gate.at(pass.number(), Point::MapsTaken);
@@ -127,6 +131,7 @@ fn step_held<R: Wait, G: Gate>(
     ensures free { (view pass.new).held ≡ [] }
     ensures comes { ComesFrom (IsOfStep its) (view pass.old) (call.Step its) reply.Step
         (view pass.new) result }
+    ensures never_full { NeverFull result }
 {
     let mut hands = Hands::new(its, translator, Some(memory));
     let made = step_with(rt, machine, pass, gate, &mut hands);
@@ -157,6 +162,7 @@ fn step_with<R: Wait, G: Gate>(
     ensures hands { HasInHand (setup machine.now) (view pass.new) hands.new }
     ensures comes { ComesFrom (IsOfStep hands.old.its) (view pass.old) (call.Step hands.old.its)
         reply.Step (view pass.new) result }
+    ensures never_full { NeverFull result }
 {
     let Some(memory) = &hands.memory else {
         unreachable!();
@@ -165,7 +171,7 @@ fn step_with<R: Wait, G: Gate>(
         Met::Still(reply) => make_still(machine, pass, gate, reply, hands),
         Met::Command(command) => {
             take_needed(rt, machine, pass, &command, hands);
-            make_command(machine, pass, gate, &command, hands)
+            make_command(machine, pass, gate, &command, hands, &NoRule)
         }
     }
 }

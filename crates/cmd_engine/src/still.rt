@@ -5,6 +5,7 @@ ghost use Rattle.its_plain.specs.declared.call.Reply.TheVariants as reply;
 ghost use Rattle.its_turns.specs.Machines.{setup, view, IsOf};
 ghost use Rattle.cmd_exec.specs.Met.{MeetsNone};
 ghost use Rattle.cmd_engine.specs.Hands.{HasInHand, IsBase, IsOfStep, windows_of};
+ghost use Rattle.cmd_engine.specs.Rules.{KeepsTo, Rule};
 ghost use Rattle.cmd_engine.specs.Telling.{ComesFrom};
 
 use crate::cached::Mark;
@@ -32,6 +33,8 @@ pub(crate) fn make_still<G: Gate>(
     ensures tries { (view pass.new).tries ≡ (view pass.old).tries }
     ensures comes { ComesFrom (IsOfStep hands.now.its) (view pass.old) (call.Step hands.now.its)
         reply.Step (view pass.new) result }
+    ensures rule { (r : Rule) → KeepsTo r (setup machine.now).start hands.now.its
+        (view pass.new).seen result }
 {
     let Ok(word) = begin(machine, pass) else {
         return Err(Missed::Spent);

@@ -23,6 +23,8 @@ pub enum Tried<T> {
     /// It was not: the next command adds a device, a collection or an event, and there was no
     /// memory for it.
     NoMemory,
+    /// It was not: the rule that the step keeps to forbids the next command.
+    Full,
 }
 
 /// Of a call that was given up, or came to this.
@@ -33,6 +35,7 @@ pub(crate) fn outcome<T>(made: Result<Result<Placed<T>, Missed>, Busy>) -> Tried
         Ok(Ok(placed)) => Tried::Done(placed),
         Ok(Err(Missed::Spent)) => Tried::Spent,
         Ok(Err(Missed::NoMemory)) => Tried::NoMemory,
+        Ok(Err(Missed::Full)) => Tried::Full,
         Ok(Err(Missed::Raced(raced))) => Tried::Raced(raced),
         Ok(Err(Missed::Late)) => Tried::Late,
         Err(busy) => Tried::Busy(busy),

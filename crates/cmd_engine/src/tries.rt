@@ -13,12 +13,14 @@ ghost use Rattle.its_turns.specs.Told.{HasStood};
 ghost use Rattle.cmd_engine.specs.Hands.{HasInHand, IsBase, IsOwn, memory_held};
 ghost use Rattle.cmd_engine.specs.Hands.{IsOfTranslator, IsOfStep};
 ghost use Rattle.cmd_engine.specs.Registers.{write_call};
+ghost use Rattle.cmd_engine.specs.Rules.{IsNotFull, KeepsOnce, KeepsTried};
 ghost use Rattle.cmd_engine.specs.Tries.{ComesOnce, ComesOnceFrom, TriesOnce};
 ghost use Rattle.cmd_engine.specs.declared.cached.Cached.TheVariants as shards;
 
 use crate::commands::make_command;
 use crate::hands::{Hands, put_taken};
 use crate::missed::Missed;
+use crate::rule::{MapRule, NoRule};
 use crate::still::make_still;
 use crate::taking_once::{once_cached, once_needed};
 use crate::tried::{Tried, outcome};
@@ -44,8 +46,29 @@ pub fn try_step_at<G: Gate>(
     ensures of { IsOf machine.now pass.new }
     ensures answer { TriesOnce (IsOfStep its) (view pass.old) (call.Step its) reply.Step
         (view pass.new) result }
+    ensures never_full { IsNotFull result }
 {
-    outcome(step_tried(machine, pass, gate, its))
+    try_step_within(machine, pass, gate, its, &NoRule)
+}
+
+/// The same, where a command is taken only if the rule doesn't forbid it.
+pub fn try_step_within<G: Gate, L: MapRule>(
+    machine: &Machine,
+    pass: &mut Pass,
+    gate: &G,
+    its: u8,
+    rule: &L,
+) -> Tried<StepReply>
+    requires of { IsOf machine.now pass.old }
+    requires its { its < translator_count (setup machine.now) }
+    requires free { (view pass.old).held ≡ [] }
+    ensures of { IsOf machine.now pass.new }
+    ensures answer { TriesOnce (IsOfStep its) (view pass.old) (call.Step its) reply.Step
+        (view pass.new) result }
+    ensures rule { KeepsTried (L.forbidden rule.now) (setup machine.now).start its
+        (view pass.new).seen result }
+{
+    outcome(step_tried(machine, pass, gate, its, rule))
 }
 
 /// A step of translator 0 that waits for nobody.
@@ -54,7 +77,7 @@ pub fn try_step_at<G: Gate>(
 /// match try_step(machine, pass, &Open) {
 ///     Tried::Done(placed) => told(placed.reply),
 ///     Tried::Busy(_) | Tried::Raced(_) | Tried::Late => later(),
-///     Tried::Spent | Tried::NoMemory => stopped(),
+///     Tried::Spent | Tried::NoMemory | Tried::Full => stopped(),
 /// }
 /// ```
 pub fn try_step<G: Gate>(machine: &Machine, pass: &mut Pass, gate: &G) -> Tried<StepReply>
@@ -63,15 +86,17 @@ pub fn try_step<G: Gate>(machine: &Machine, pass: &mut Pass, gate: &G) -> Tried<
     ensures of { IsOf machine.now pass.new }
     ensures answer { TriesOnce (IsOfStep 0) (view pass.old) (call.Step 0) reply.Step
         (view pass.new) result }
+    ensures never_full { IsNotFull result }
 {
     try_step_at(machine, pass, gate, 0)
 }
 
-fn step_tried<G: Gate>(
+fn step_tried<G: Gate, L: MapRule>(
     machine: &Machine,
     pass: &mut Pass,
     gate: &G,
     its: u8,
+    rule: &L,
 ) -> Result<Result<Placed<StepReply>, Missed>, Busy>
     requires of { IsOf machine.now pass.old }
     requires its { its < translator_count (setup machine.now) }
@@ -80,6 +105,8 @@ fn step_tried<G: Gate>(
     ensures free { (view pass.new).held ≡ [] }
     ensures comes { ComesOnce (IsOfStep its) (view pass.old) (call.Step its) reply.Step
         (view pass.new) result }
+    ensures rule { KeepsOnce (L.forbidden rule.now) (setup machine.now).start its
+        (view pass.new).seen result }
 {
     let translator = match try_take_maps(machine, pass, its) {
         Ok(translator) => translator,
@@ -87,7 +114,7 @@ fn step_tried<G: Gate>(
     };
     gate.at(pass.number(), Point::MapsTaken);
     match try_take_memory(machine, pass) {
-        Ok(memory) => tried_held(machine, pass, gate, its, translator, memory),
+        Ok(memory) => tried_held(machine, pass, gate, its, translator, memory, rule),
         Err(busy) => {
             put(machine, pass, Part::Maps(its), Value::Maps(translator));
             Err(busy)
@@ -96,13 +123,14 @@ fn step_tried<G: Gate>(
 }
 
 // The maps and memory are in hand, and go home in the end.
-fn tried_held<G: Gate>(
+fn tried_held<G: Gate, L: MapRule>(
     machine: &Machine,
     pass: &mut Pass,
     gate: &G,
     its: u8,
     translator: Box<Translator>,
     memory: Box<GuestMemory>,
+    rule: &L,
 ) -> Result<Result<Placed<StepReply>, Missed>, Busy>
     requires of { IsOf machine.now pass.old }
     requires its { its < translator_count (setup machine.now) }
@@ -115,9 +143,11 @@ fn tried_held<G: Gate>(
     ensures free { (view pass.new).held ≡ [] }
     ensures comes { ComesOnceFrom (IsOfStep its) (view pass.old) (call.Step its) reply.Step
         (view pass.new) result }
+    ensures rule { KeepsOnce (L.forbidden rule.now) (setup machine.now).start its
+        (view pass.new).seen result }
 {
     let mut hands = Hands::new(its, translator, Some(memory));
-    let made = tried_with(machine, pass, gate, &mut hands);
+    let made = tried_with(machine, pass, gate, &mut hands, rule);
     put_taken(machine, pass, &mut hands);
     let Hands {
         its,
@@ -129,11 +159,12 @@ fn tried_held<G: Gate>(
 }
 
 // The maps and memory are in hand.
-fn tried_with<G: Gate>(
+fn tried_with<G: Gate, L: MapRule>(
     machine: &Machine,
     pass: &mut Pass,
     gate: &G,
     hands: &mut Hands,
+    rule: &L,
 ) -> Result<Result<Placed<StepReply>, Missed>, Busy>
     requires of { IsOf machine.now pass.old }
     requires hands { HasInHand (setup machine.now) (view pass.old) hands.old }
@@ -144,6 +175,8 @@ fn tried_with<G: Gate>(
     ensures hands { HasInHand (setup machine.now) (view pass.new) hands.new }
     ensures comes { ComesOnceFrom (IsOfStep hands.old.its) (view pass.old)
         (call.Step hands.old.its) reply.Step (view pass.new) result }
+    ensures rule { KeepsOnce (L.forbidden rule.now) (setup machine.now).start hands.old.its
+        (view pass.new).seen result }
 {
     let Some(memory) = &hands.memory else {
         unreachable!();
@@ -151,7 +184,7 @@ fn tried_with<G: Gate>(
     match meet(&hands.translator.regs, &memory.memory) {
         Met::Still(reply) => Ok(make_still(machine, pass, gate, reply, hands)),
         Met::Command(command) => match once_needed(machine, pass, &command, hands) {
-            Ok(()) => Ok(make_command(machine, pass, gate, &command, hands)),
+            Ok(()) => Ok(make_command(machine, pass, gate, &command, hands, rule)),
             Err(busy) => Err(busy),
         },
     }

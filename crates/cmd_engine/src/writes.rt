@@ -44,7 +44,7 @@ pub fn write_at<R: Wait, G: Gate>(
         match write_once(rt, machine, pass, gate, its, write) {
             Ok(placed) => return Ok(placed),
             Err(Missed::Spent) => return Err(Spent),
-            Err(Missed::NoMemory) => unreachable!(),
+            Err(Missed::NoMemory | Missed::Full) => unreachable!(),
             Err(Missed::Raced(_) | Missed::Late) => pause(attempt),
         }
     }

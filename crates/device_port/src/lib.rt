@@ -23,5 +23,5 @@ pub use laws::requesters_are_apart;
 pub use message::Message;
 pub use signals::{signal, signal_at, signal_once, signal_once_at};
 pub use told::Dma;
-pub use tries::try_dma;
+pub use tries::{try_dma, try_dma_within};
 pub use writes::dma;

@@ -1,5 +1,5 @@
 //! Devices' writes by address that wait for nobody.
-ghost use Rattle.std.specs.Prelude.{◌≡◌, ◌<◌, ◌∷◌, [], MatchResult};
+ghost use Rattle.std.specs.Prelude.{◌≡◌, ◌<◌, ◌∷◌, [], Err, MatchResult};
 ghost use Rattle.its_types.specs.declared.machine.Part.TheVariants as part;
 ghost use Rattle.its_types.specs.declared.machine.Word.{Word};
 ghost use Rattle.its_plain.specs.Doorbells.{dma_of, route_of};
@@ -10,13 +10,14 @@ ghost use Rattle.its_turns.specs.Calls.{GaveUp};
 ghost use Rattle.its_turns.specs.Machines.{setup, view, IsOf};
 ghost use Rattle.device_port.specs.Routes.{AreDevices};
 ghost use Rattle.device_port.specs.Tries.{DmasOnce, TellsOnce};
+ghost use Rattle.guest_port.specs.declared.pages.Unheld.TheVariants.{Full};
 
 use crate::message::Message;
 use crate::signals::send_once;
 use crate::told::Dma;
 use crate::tried::{message_tried, nothing_tried, write_tried};
 use dma_routes::route;
-use guest_port::{Writer, try_write};
+use guest_port::{AllPages, PageRule, Unheld, Writer, try_write_within};
 use its_plain::{Bytes64, Call, Reply, Route};
 use its_steps::ShardChange;
 use its_turns::{Attempt, Lost, Machine, Pass, try_commit};
@@ -53,6 +54,34 @@ pub fn try_dma<G: Gate>(
         (λ _. (route_of machine.now.desc req addr.0 bytes.now ≡ routes.Poke)
         × GaveUp (view pass.old) (part.Mem ∷ []) (view pass.new)) }
 {
+    match try_dma_within(machine, pass, gate, req, addr, bytes, &AllPages) {
+        Ok(attempt) => Ok(attempt),
+        Err(Unheld::NoMemory) => Err(AllocError),
+        Err(Unheld::Full) => unreachable!(),
+    }
+}
+
+/// Writes as `try_dma` does, where the rule allows the pages that a write of memory wants.
+pub fn try_dma_within<G: Gate, R: PageRule>(
+    machine: &Machine,
+    pass: &mut Pass,
+    gate: &G,
+    req: u32,
+    addr: Addr,
+    bytes: &Bytes64,
+    rule: &R,
+) -> Result<Attempt<Dma>, Unheld>
+    requires of { IsOf machine.now pass.old }
+    requires free { (view pass.old).held ≡ [] }
+    requires devices { AreDevices machine.now.desc.requesters }
+    ensures of { IsOf machine.now pass.new }
+    ensures answer { MatchResult result
+        (λ a. DmasOnce (view pass.old) (dma_of machine.now.desc req addr bytes.now)
+        (route_of machine.now.desc req addr.0 bytes.now) (view pass.new) a)
+        (λ _. (route_of machine.now.desc req addr.0 bytes.now ≡ routes.Poke)
+        × GaveUp (view pass.old) (part.Mem ∷ []) (view pass.new)) }
+    ensures full { result ≡ Err Full → R.is_limit rule.now }
+{
     let route = route(machine.desc(), req, addr, bytes);
     let call = Call::Dma {
         req,
@@ -67,7 +96,7 @@ pub fn try_dma<G: Gate>(
         }
         Route::Poke => {
             let writer = Writer::Requester(req);
-            let tried = try_write(machine, pass, gate, writer, addr, bytes)?;
+            let tried = try_write_within(machine, pass, gate, writer, addr, bytes, rule)?;
             Ok(write_tried(tried))
         }
         Route::NoRequester => {

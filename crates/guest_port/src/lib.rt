@@ -8,9 +8,11 @@
 mod answers;
 mod asks;
 mod copies;
+mod pages;
 mod tries;
 mod writer;
 
 pub use asks::{copy, peek, poke, write};
-pub use tries::{try_copy, try_peek, try_poke, try_write};
+pub use pages::{AllPages, PageRule, Unheld};
+pub use tries::{try_copy, try_peek, try_poke, try_poke_within, try_write, try_write_within};
 pub use writer::Writer;

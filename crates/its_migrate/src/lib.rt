@@ -17,5 +17,5 @@ pub use outcome::{Precopy, Untracked};
 pub use precopying::precopy;
 pub use resting::{PendingLists, pending};
 pub use saving::save;
-pub use sharing::share;
+pub use sharing::{share, share_owned};
 pub use trying::try_save;

@@ -1,13 +1,15 @@
-use Rattle.std.proofs.Common.{◌∙◌}
+use Rattle.std.proofs.Common.{ap, ◌∙◌}
 use Rattle.its_plain.specs.declared.call.Call.TheVariants as call
 use Rattle.its_plain.specs.declared.call.Reply.TheVariants as reply
 use Rattle.its_plain.specs.declared.call.StepReply.{StepReply}
+use Rattle.its_steps.specs.World.{View}
 use Rattle.its_turns.specs.Machines.{setup, view}
 use Rattle.its_turns.proofs.Stamps.{has_stamps}
 use Rattle.cmd_engine.specs.Hands.{IsOfStep}
 use Rattle.cmd_engine.specs.Telling.{ReadLow}
 use Rattle.cmd_engine.proofs.Came.{came_spent, came_raced, made_as}
-use Rattle.cmd_engine.proofs.Unmet.{there, still_leaves, still_within, still_may, still_in_hand_then}
+use Rattle.cmd_engine.proofs.Ruled.{allowed_before, raced_keeps}
+use Rattle.cmd_engine.proofs.Unmet.{there, still_keeps, still_leaves, still_within, still_may, still_in_hand_then}
 use Rattle.cmd_engine.proofs.Untried.{looked_tries, committed_tries, raced_tries}
 use Rattle.cmd_engine.proofs.still.make_still.Goals as goal
 
@@ -65,3 +67,15 @@ returns-in-Err-clause-tries g c = raced_tries (view c.begin.new.pass) (view c.co
 pub returns-clause-tries : goal.returns-clause-tries
 returns-clause-tries g c = committed_tries (view c.begin.new.pass) (view c.commit_marked.new.pass) _ c.in-Ok-commit_marked.ensures.result.1
     ∙ looked_tries (view c.args.pass.now) (view c.begin.new.pass) c.in-Ok.word c.in-Ok.ensures.word.0
+
+pub returns-in-Err-clause-rule : goal.returns-in-Err-clause-rule
+returns-in-Err-clause-rule g c r =
+    raced_keeps StepReply r (setup c.args.machine.now).start c.args.hands.now.its (view c.begin.new.pass) c.in-Ok.word c.in-Err.missed
+    (view c.commit_marked.new.pass) c.in-Err.ensures.result
+
+pub returns-clause-rule : goal.returns-clause-rule
+returns-clause-rule g c r = let m = c.args.machine.now in let q = c.requires in let b = there c.args.hands.now.memory q.base.memory in
+    allowed_before r (setup m).start c.args.hands.now.its (view c.begin.new.pass).seen (view c.commit_marked.new.pass).seen _
+    (still_keeps (setup m) (has_stamps m) (view c.args.pass.now) c.args.hands.now q.hands b.0 b.1 c.args.said q.none (view c.begin.new.pass) c.in-Ok.word
+    q.of.1 c.in-Ok.ensures.word.0 c.in-Ok.ensures.word.1 r)
+    (ap (λ (k : View). k.seen) c.in-Ok-commit_marked.ensures.result.1.view)

@@ -1,10 +1,13 @@
-use Rattle.std.proofs.Common.{Some, ap, sym, ◌∙◌, subst, ℕ}
+use Rattle.std.proofs.Common.{◌≡◌, List, Some, ap, sym, ◌∙◌, subst, ℕ}
 use Rattle.its_plain.specs.declared.call.Call.TheVariants as call
 use Rattle.its_plain.specs.declared.call.Reply.TheVariants as reply
 use Rattle.its_plain.specs.declared.call.StepReply.{StepReply}
 use Rattle.its_turns.specs.Machines.{setup, view}
+use Rattle.its_plain.specs.declared.call.Entry.{Entry}
+use Rattle.its_steps.specs.World.{View}
 use Rattle.its_turns.specs.Told.{released}
 use Rattle.cmd_engine.specs.Hands.{IsOfStep}
+use Rattle.cmd_engine.specs.Rules.{KeepsOnce}
 use Rattle.cmd_engine.specs.Tries.{GoesAtOnce, ComesOnce}
 use Rattle.cmd_engine.specs.declared.cached.Cached.TheVariants as cached
 use Rattle.cmd_engine.proofs.Getting.{base_of, own_in_hand}
@@ -31,3 +34,10 @@ returns-clause-comes g c v bare goes =
     (subst (λ (n : ℕ). ComesOnce (IsOfStep n) v (call.Step n) (λ (k : StepReply). reply.Step k) z c.tried_with-made.result) own
     (c.tried_with-made.ensures.comes v bare (subst (λ (n : ℕ). GoesAtOnce (IsOfStep n) v y) (sym own) goes)))
     (c.put.ensures.view ∙ ap released c.put_taken.ensures.home)
+
+pub returns-clause-rule : goal.returns-clause-rule
+returns-clause-rule g c =
+    let z = view c.tried_with-made.new.pass in
+    let home : (view c.put.new.pass).seen ≡ z.seen = ap (λ (y : View). y.seen) (c.put.ensures.view ∙ ap released c.put_taken.ensures.home) in
+    subst (λ (p : ℕ × List Entry). KeepsOnce (g.L.MapRule.forbidden c.args.rule.now) (setup c.args.machine.now).start p.0 p.1 c.tried_with-made.result)
+    (λ d. (c.new-hands.ensures.its d, sym home d)) c.tried_with-made.ensures.rule

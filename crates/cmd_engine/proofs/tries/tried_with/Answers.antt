@@ -2,7 +2,7 @@ use Rattle.std.proofs.Common.{sym, subst, ℕ}
 use Rattle.its_plain.specs.declared.call.Call.TheVariants as call
 use Rattle.its_plain.specs.declared.call.Reply.TheVariants as reply
 use Rattle.its_plain.specs.declared.call.StepReply.{StepReply}
-use Rattle.its_turns.specs.Machines.{view}
+use Rattle.its_turns.specs.Machines.{setup, view}
 use Rattle.held_parts.specs.Taking.{Goes}
 use Rattle.cmd_engine.specs.Hands.{IsOfStep}
 use mathlib.Core.List.{IsPrefix}
@@ -11,6 +11,7 @@ use Rattle.cmd_engine.specs.Telling.{ComesWith, ReadLow}
 use Rattle.cmd_engine.specs.Tries.{GoesAtOnce}
 use Rattle.cmd_engine.proofs.Came.{late_comes, low_from}
 use Rattle.cmd_engine.proofs.Trying.{at_once_goes, at_once_got, at_once_then, gave_then}
+use Rattle.cmd_engine.specs.Rules.{KeepsTo}
 use Rattle.cmd_engine.proofs.tries.tried_with.Goals as goal
 
 pub returns-in-Still-clause-comes : goal.returns-in-Still-clause-comes
@@ -39,3 +40,11 @@ returns-in-Ok-clause-comes g c v bare goes =
 pub returns-in-Err-clause-comes : goal.returns-in-Err-clause-comes
 returns-in-Err-clause-comes g c v bare goes = gave_then (IsOfStep c.args.hands.now.its) v (view c.args.pass.now) (view c.once_needed.new.pass) c.in-Err.busy
     goes c.in-Err.ensures.result
+
+pub returns-in-Still-clause-rule : goal.returns-in-Still-clause-rule
+returns-in-Still-clause-rule g c = c.make_still.ensures.rule (g.L.MapRule.forbidden c.args.rule.now)
+
+pub returns-in-Ok-clause-rule : goal.returns-in-Ok-clause-rule
+returns-in-Ok-clause-rule g c =
+    subst (λ (n : ℕ). KeepsTo (g.L.MapRule.forbidden c.args.rule.now) (setup c.args.machine.now).start n (view c.make_command.new.pass).seen
+    c.make_command.result) c.once_needed.ensures.same.its c.make_command.ensures.rule

@@ -1,13 +1,7 @@
-use Rattle.its_plain.specs.declared.call.Call.TheVariants as call
-use Rattle.its_plain.specs.declared.call.Reply.TheVariants as reply
-use Rattle.its_plain.specs.declared.call.StepReply.{StepReply}
-use Rattle.its_turns.specs.Machines.{view}
-use Rattle.cmd_engine.specs.Hands.{IsOfStep}
-use Rattle.cmd_engine.proofs.Trying.{tries_once}
+use Rattle.its_turns.specs.Machines.{setup, view}
+use Rattle.cmd_engine.proofs.Ruled.{not_full}
 use Rattle.cmd_engine.proofs.tries.try_step_at.Goals as goal
 
-pub returns-clause-answer : goal.returns-clause-answer
-returns-clause-answer g c = let i = c.args.its in
-    rw (c.outcome.ensures)
-    (tries_once (IsOfStep i) (view c.args.pass.now) (view c.step_tried.new.pass) c.requires.free c.step_tried.ensures.free (call.Step i)
-    (λ (k : StepReply). reply.Step k) c.step_tried.result c.step_tried.ensures.comes)
+pub returns-clause-never_full : goal.returns-clause-never_full
+returns-clause-never_full g c = not_full (setup c.args.machine.now).start c.args.its (view c.try_step_within.new.pass).seen c.try_step_within.result
+    c.try_step_within.ensures.rule

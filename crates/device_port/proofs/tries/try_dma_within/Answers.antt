@@ -17,7 +17,7 @@ use Rattle.device_port.proofs.Doorbells.{stands}
 use Rattle.device_port.proofs.Once.{message_tries, write_tries}
 use Rattle.device_port.specs.Messages.{message}
 use Rattle.device_port.specs.Signals.{SignalsOnce}
-use Rattle.device_port.proofs.tries.try_dma.Goals as goal
+use Rattle.device_port.proofs.tries.try_dma_within.Goals as goal
 
 pub send_once-requires-clause-sends : goal.send_once-requires-clause-sends
 send_once-requires-clause-sends g c =
@@ -50,7 +50,7 @@ returns-in-Signal-clause-answer g c =
 
 pub returns-in_ok-tried-in-Poke-clause-answer : goal.returns-in_ok-tried-in-Poke-clause-answer
 returns-in_ok-tried-in-Poke-clause-answer g c =
-    let d = c.args.machine.now.desc in let v = view c.args.pass.now in let w = view c.try_write.new.pass in let tried = c.in_ok-tried-in-Poke.tried in
+    let d = c.args.machine.now.desc in let v = view c.args.pass.now in let w = view c.try_write_within.new.pass in let tried = c.in_ok-tried-in-Poke.tried in
     let to : route_of d c.args.req c.args.addr.0 c.args.bytes.now ≡ route.Poke =
     sym (c.route-route.ensures.route ∙ ap (λ (k : Desc). route_of k c.args.req c.args.addr.0 c.args.bytes.now) c.desc.ensures.desc) ∙ c.in-Poke.is in
     let made = subst (λ (r : Route). TriesPart v part.Mem (call.Dma c.args.req c.args.addr c.args.bytes.now r) (λ (k : Reply). k) w tried) (sym to)

@@ -11,13 +11,13 @@ use Rattle.its_turns.specs.declared.value.GuestMemory.{GuestMemory}
 use Rattle.its_turns.proofs.Telling.{may_here, owes_here, one_held, one_lost}
 use Rattle.guest_port.proofs.Alone.{one, one_written, writes_now}
 use Rattle.guest_port.specs.Pokes.{write_of}
-use Rattle.guest_port.proofs.tries.try_write.Goals as goal
+use Rattle.guest_port.proofs.tries.try_write_within.Goals as goal
 
 pub try_commit-requires-clause-may : goal.try_commit-requires-clause-may
 try_commit-requires-clause-may g c =
     let m = c.args.machine.now in let v = view c.args.pass.now in let x = view c.try_take_memory.new.pass in let ws = c.in-Ok.memory.value.memory in
     let track = c.in-Ok.memory.value.track in let addr = c.args.addr in let bytes = c.args.bytes.now in let a = poke_reply (write_at ws addr.0 bytes) in
-    let same : c.prepare.new.guest.memory ≡ ws = c.prepare.ensures.memory ∙ ap (λ (k : GuestMemory). k.memory) c.deref_mut.ensures.value in
+    let same : c.hold.new.guest.memory ≡ ws = c.hold.ensures.memory ∙ ap (λ (k : GuestMemory). k.memory) c.deref_mut.ensures.value in
     rw (c.call-call.ensures, c.poke_answer-reply.ensures.answer, c.deref.ensures, same) (may_here (setup m) (write_of c.args.writer addr bytes) a Keep
     (one ws track)
     (λ _. one_written ws track addr.0 bytes) (writes_now (setup m) ws track m.laid.1 c.args.writer addr bytes) x
@@ -27,8 +27,8 @@ pub put-requires-in-Ok-try_commit-clause-owed : goal.put-requires-in-Ok-try_comm
 put-requires-in-Ok-try_commit-clause-owed g c =
     let m = c.args.machine.now in let v = view c.args.pass.now in let x = view c.try_take_memory.new.pass in let ws = c.in-Ok.memory.value.memory in
     let track = c.in-Ok.memory.value.track in let addr = c.args.addr in let bytes = c.args.bytes.now in let a = poke_reply (write_at ws addr.0 bytes) in
-    let same : c.prepare.new.guest.memory ≡ ws = c.prepare.ensures.memory ∙ ap (λ (k : GuestMemory). k.memory) c.deref_mut.ensures.value in
-    let still : c.prepare.new.guest.track ≡ track = c.prepare.ensures.track ∙ ap (λ (k : GuestMemory). k.track) c.deref_mut.ensures.value in
+    let same : c.hold.new.guest.memory ≡ ws = c.hold.ensures.memory ∙ ap (λ (k : GuestMemory). k.memory) c.deref_mut.ensures.value in
+    let still : c.hold.new.guest.track ≡ track = c.hold.ensures.track ∙ ap (λ (k : GuestMemory). k.track) c.deref_mut.ensures.value in
     record {
       content = poked_content ws track addr.0 bytes (write_at ws addr.0 bytes);
       content_is = rw (c.write_bytes.ensures.written, c.deref_mut-in-Ok-try_commit.ensures.value, same, still) refl;
