@@ -7,6 +7,7 @@ use Rattle.event_script.specs.declared.script.Script.{Script}
 use Rattle.its_history.specs.Report.{report_text}
 use Rattle.its_history.specs.declared.trace.Leg.{Leg as LegLines}
 use Rattle.its_fit.specs.Explained.{told_by}
+use Rattle.its_fit.specs.Replays.{IsOrder}
 use Rattle.its_fit.specs.Verdicts.{IsFit, IsMisfit, IsStart}
 use Rattle.its_fit.specs.declared.told.Answered.{Answered}
 use Rattle.its_fit.specs.declared.told.Told.{Told}
@@ -69,11 +70,18 @@ pub record IsNowhere (d : Desc) (calls : Phase) (told : Told) (text : List ℕ) 
   pub more : List ℕ
   pub text_is : text ≡ codes "fits nowhere\n" ++ (reached_lines told.threads (replicate (length told.threads) 0) 0 order ++ more)
 
--- A report with places explains it; or nothing does; or the bound was met, and no more is said.
+-- Not decided. The lines of an order of the calls follow, in which each is answered as it was, and after which just that is pending which is told;
+-- no report of it was found to be that of a run.
+pub record IsUnconfirmed (d : Desc) (calls : Phase) (told : Told) (text : List ℕ) : Type 0 where
+  pub order : List ℕ
+  pub fits : IsOrder d calls told order
+  pub text_is : text ≡ codes "unconfirmed\n" ++ reached_lines told.threads (replicate (length told.threads) 0) 0 order
+
+-- A report with places explains it; or nothing does; or it isn't decided: the bound was met, or an order was found of which no report was confirmed.
 abbrev pub ToldSays : Desc → Phase → Told → ℕ → Status → List ℕ → Type 0
 ToldSays d calls told bound status.Ok text = (legs : List LegLines) × (IsFit d calls told legs × (text ≡ codes "fits\n" ++ report_text legs))
 ToldSays d calls told bound status.TraceDiffers text = IsNowhere d calls told text
-ToldSays d calls told bound status.Undecided text = text ≡ undecided_text bound
+ToldSays d calls told bound status.Undecided text = (text ≡ undecided_text bound) ⊎ IsUnconfirmed d calls told text
 ToldSays d calls told bound _ text = ⊥
 
 pub record OfTold (bound : ℕ) (s : Status) (input text : List ℕ) : Type 0 where

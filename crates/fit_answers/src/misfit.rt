@@ -1,4 +1,4 @@
-//! What is said where no history explains what threads were told.
+//! What is said where no history explains what threads were told, or none was confirmed.
 ghost use Rattle.std.specs.Prelude.{◌≡◌, ◌++◌, IfOk, List, ℕ, codes, length, replicate};
 ghost use Rattle.std.specs.String.{string_bytes};
 ghost use Rattle.fit_answers.specs.Reached as spec;
@@ -29,6 +29,21 @@ pub fn misfit_text(
     let reached = push_reached(alloc, &mut text, recording.told.threads.as_slice(), order)?;
     let more = more_text(alloc, recording, &reached)?;
     text.push_str(more.as_str())?;
+    Ok(text)
+}
+
+/// The line `unconfirmed`, and an order of the calls.
+pub fn unconfirmed_text(
+    alloc: Global,
+    recording: &Recording<'_>,
+    order: &[usize],
+) -> Result<String, AllocError>
+    ensures { IfOk result (λ text. string_bytes text ≡ codes "unconfirmed\n"
+        ++ spec.reached_lines recording.now.told.now.threads
+        (replicate (length recording.now.told.now.threads) 0) 0 order.now) }
+{
+    let mut text = String::from_str(alloc, "unconfirmed\n")?;
+    push_reached(alloc, &mut text, recording.told.threads.as_slice(), order)?;
     Ok(text)
 }
 

@@ -7,13 +7,15 @@ ghost use Rattle.event_script.specs.Script.{check_of};
 ghost use Rattle.event_script.specs.Text.{parts};
 ghost use Rattle.its_plain.specs.Machine.{IsDescription};
 ghost use Rattle.its_plain.specs.Runs.{Phase};
-ghost use Rattle.its_fit.specs.Verdicts.{IfFits, IfNowhere, IfReached, IsFit, IsMisfit, IsStart};
+ghost use Rattle.its_fit.specs.Replays.{IsOrder};
+ghost use Rattle.its_fit.specs.Verdicts.{IfFits, IfNowhere, IfReached, IfUnconfirmed, IsFit};
+ghost use Rattle.its_fit.specs.Verdicts.{IsMisfit, IsStart};
 ghost use Rattle.its_history.specs.Report as history;
 ghost use Rattle.fit_answers.specs.FitSays as spec;
 ghost use Rattle.fit_answers.specs.ToldText.{IsToldAs, told_of};
 ghost use Rattle.its_fit.specs.Explained.{told_by};
 
-use crate::misfit::misfit_text;
+use crate::misfit::{misfit_text, unconfirmed_text};
 use crate::reading::read_told;
 use event_script::{Calls, Leg, ParseError, Script, parse_check};
 use its_answers::{Ending, Status, bad_trace, machine_refusal, script_refusal};
@@ -26,8 +28,8 @@ use std::alloc::{AllocError, Global};
 use std::fmt::Write;
 
 /// Answers bytes that were read to their end, and tries at most so many calls: with the line `fits`
-/// and a report, with the line `fits nowhere` and how far the search came, or with the bound. What
-/// is no script, or describes no machine, is refused as a check does; what has more than one phase,
+/// and a report, with the line `fits nowhere` and how far the search came, with the bound, or with an
+/// order of which no report was confirmed. What is no script, or describes no machine, is refused as a check does; what has more than one phase,
 /// tells something else, or tells of another number of calls, is no report.
 pub fn say_fit(alloc: Global, input: &[u8], bound: u64) -> Result<Ending, AllocError>
     ensures says { IfOk result (λ e.
@@ -225,8 +227,7 @@ fn say_recording(
     ending
 }
 
-/// Tells a verdict. One that wasn't confirmed is told as no decision: it comes for nothing that is
-/// read here, which no clause says yet.
+/// Tells a verdict.
 fn say_verdict(
     alloc: Global,
     recording: &Recording<'_>,
@@ -238,6 +239,8 @@ fn say_verdict(
     requires nowhere { IfNowhere verdict.now (IsMisfit recording.now.desc.now
         recording.now.calls.now recording.now.told.now) }
     requires reached { IfReached verdict.now (IsStart recording.now.desc.now
+        recording.now.calls.now recording.now.told.now) }
+    requires unconfirmed { IfUnconfirmed verdict.now (IsOrder recording.now.desc.now
         recording.now.calls.now recording.now.told.now) }
     ensures { IfOk result (λ e. spec.ToldSays recording.now.desc.now recording.now.calls.now
         recording.now.told.now bound e.status (string_bytes e.line)) }
@@ -253,11 +256,15 @@ fn say_verdict(
             let status = Status::TraceDiffers;
             Ok(Ending { status, line })
         }
-        Verdict::Undecided(_) | Verdict::Unconfirmed(_) => {
+        Verdict::Undecided(_) => {
             let line = undecided_text(alloc, bound)?;
             let status = Status::Undecided;
             Ok(Ending { status, line })
         }
+        Verdict::Unconfirmed(order) => Ok(Ending {
+            status: Status::Undecided,
+            line: unconfirmed_text(alloc, recording, order)?,
+        }),
     }
 }
 

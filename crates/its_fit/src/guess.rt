@@ -1,8 +1,10 @@
 //! A guess at an order: at each front the call that returned first goes first. What it finds is
-//! followed again before it is believed, and nothing is concluded where it finds none.
+//! followed again before it is believed, and nothing is concluded where it finds none. As in the
+//! search, no other is tried in the place of a call that commutes with all that may stand before it,
+//! and a thread that was tried isn't tried again while calls are placed with which its own commutes.
 use crate::recording::{Recording, is_pending, told_at};
 use crate::replay::{Made, call_at};
-use front_search::Span;
+use front_search::{Recorded, Span};
 use its_history::reply_text;
 use its_plain::Call;
 use owned_machine::Machine;
@@ -21,7 +23,7 @@ const MADE_ANEW: usize = 4000;
 #[derive(Clone, Copy)]
 struct Step {
     made: Made,
-    /// The threads that were tried before it, thread by bit.
+    /// The threads that were tried before it or needed no try, thread by bit.
     tried: u64,
 }
 
@@ -34,7 +36,7 @@ struct Walk {
     placed: Vec<Step>,
     /// How many of each thread they are.
     front: Vec<usize>,
-    /// The threads that were tried at this front.
+    /// The threads that were tried at this front, or need no try there.
     tried: u64,
     /// How many calls may yet be made again.
     left: usize,
@@ -152,18 +154,79 @@ impl Walk {
             return Ok(false);
         };
         let tried = self.tried;
-        self.tried |= bit(thread);
+        let alone = self.goes_at_once(recording, made);
+        self.tried = if alone { u64::MAX } else { tried | bit(thread) };
         if self.shows_other(alloc, recording, made)? {
             return Ok(true);
         }
         if recording.goes(alloc, &mut self.machine, made)? {
-            self.placed.push(Step { made, tried })?;
+            let before = if alone { u64::MAX } else { tried };
+            self.placed.push(Step {
+                made,
+                tried: before,
+            })?;
+            self.tried = self.still_tried(recording, made, tried);
             self.count(thread, 1);
-            self.tried = 0;
         } else {
             self.is_spoiled = true;
         }
         Ok(true)
+    }
+
+    /// Whether a call commutes with all calls of other threads that are left and may stand before
+    /// it.
+    fn goes_at_once(&self, recording: &Recording<'_>, made: Made) -> bool {
+        for other in 0..self.front.len() {
+            if other != made.thread && !self.commutes_with(recording, made, other) {
+                return false;
+            }
+        }
+        true
+    }
+
+    /// The same of the calls of one thread.
+    fn commutes_with(&self, recording: &Recording<'_>, made: Made, other: usize) -> bool {
+        let threads = recording.told.threads.as_slice();
+        let Some(told) = told_at(threads, made) else {
+            return false;
+        };
+        let Some(placed) = self.front.get(other).copied() else {
+            return false;
+        };
+        for call in placed..usize::MAX {
+            let Some(passed) = told_at(
+                threads,
+                Made {
+                    thread: other,
+                    call,
+                },
+            ) else {
+                return true;
+            };
+            if told.span.end < passed.span.begin {
+                return true;
+            }
+            if !recording.commutes(made.thread, made.call, other, call) {
+                return false;
+            }
+        }
+        true
+    }
+
+    /// Those of some threads that need no try after a call is placed: their next calls commute with
+    /// it, so that they were tried before it.
+    fn still_tried(&self, recording: &Recording<'_>, placed: Made, tried: u64) -> u64 {
+        let mut still = 0;
+        for thread in 0..self.front.len() {
+            if tried & bit(thread) != 0 && thread != placed.thread {
+                if let Some(next) = self.next(recording, thread) {
+                    if recording.commutes(thread, next.call, placed.thread, placed.call) {
+                        still |= bit(thread);
+                    }
+                }
+            }
+        }
+        still
     }
 
     /// Whether an acknowledgement would be answered otherwise. This leaves the machine as it was.

@@ -1,4 +1,5 @@
-use Rattle.std.proofs.Common.{ℕ, List, sym, subst}
+use Rattle.std.proofs.Common.{ℕ, List, sym, subst, inl, inr}
+use Rattle.its_fit.specs.Replays.{IsOrder}
 use Rattle.its_fit.specs.Verdicts.{IsStart}
 use Rattle.fit_answers.proofs.say.say_verdict.Goals as goal
 
@@ -18,3 +19,16 @@ returns-in_ok-line-in-Nowhere c =
       more = text.0;
       text_is = text.1;
     }
+
+pub returns-in_ok-line-in-Undecided : goal.returns-in_ok-line-in-Undecided
+returns-in_ok-line-in-Undecided c = inl c.in_ok-line-in-Undecided.ensures
+
+pub returns-in_ok-unconfirmed_text-in-Unconfirmed : goal.returns-in_ok-unconfirmed_text-in-Unconfirmed
+returns-in_ok-unconfirmed_text-in-Unconfirmed c =
+    let recording = c.args.recording.now in
+    let fits = rw c.in-Unconfirmed.is at c.requires.unconfirmed in
+    inr (record {
+      order = c.deref-in-Unconfirmed.result.now;
+      fits = subst (λ (order : List ℕ). IsOrder recording.desc.now recording.calls.now recording.told.now order) (sym c.deref-in-Unconfirmed.ensures.value) fits;
+      text_is = c.in_ok-unconfirmed_text-in-Unconfirmed.ensures;
+    })
