@@ -1,11 +1,14 @@
 pub mod Acks
 pub mod Book
+pub mod Chosen
 pub mod Events
 pub mod Facts
 pub mod Looks
 pub mod Mappings
 pub mod Numbers
+pub mod Replies
 pub mod Signals
+pub mod Since
 pub mod Steps
 pub mod Taken
 pub mod Views
