@@ -1,4 +1,5 @@
 mod Chosen
+mod Counts
 mod Keys
 mod Lent
 mod NextCommand

@@ -1,5 +1,5 @@
 -- What is told in two parts is told.
-use Rattle.std.proofs.Common.{◌≡◌, ◌⊎◌, inl, inr, ⊎_elim, ℕ, Bool, true, false, not, ◌&&◌, if◌then◌else◌, List, [], ◌∷◌, ◌++◌, Option, Some, None, refl, sym, ap, ◌∙◌, subst, append_assoc}
+use Rattle.std.proofs.Common.{◌≡◌, ◌⊎◌, inl, inr, ⊎_elim, ℕ, Bool, true, false, not, ◌&&◌, if◌then◌else◌, List, [], ◌∷◌, ◌++◌, Option, Some, None, refl, sym, ap, ◌∙◌, subst, append_assoc, Result, Ok, Err, OnOk}
 use Rattle.std.specs.Option.{option_map, unwrap_or}
 use Rattle.std.proofs.lemmas.Bool.{cases_eq}
 use Rattle.call_facts.specs.declared.answers.Key.{Key}
@@ -168,3 +168,17 @@ tells_move b c u v same left = (
 
 pub tells_both : (b c d : Book) (u v w : Plain) → Tells b u c v → Tells c v d w → Tells b u d w
 tells_both b c d u v w one two = (one.0 ++ two.0, joined b u one.0 c v one.1 two.0 d w two.1)
+
+-- of what comes of a call
+pub always : {E X : Type 0} {P : Type 0} (r : Result X E) → P → OnOk r P
+always (Ok x) p = p
+always (Err e) p = tt
+
+pub tells_on : {E X : Type 0} (r : Result X E) (b c d : Book) (u v w : Plain) → Tells b u c v → OnOk r (Tells c v d w) → OnOk r (Tells b u d w)
+tells_on (Ok x) b c d u v w one two = tells_both b c d u v w one two
+tells_on (Err e) b c d u v w one two = tt
+
+pub tells_call : (b c : Book) (u v : Plain) (n : Next) → v ≡ after u n.call
+    → ((i : ℕ) (k : Key) → changer c i k ≡ (if changes u n.call i k then Some (changing_line b u n.call n.line.number) else changer b i k))
+    → ((a : ℕ) → writer c a ≡ (if writes n.call (reply_of u n.call) a then Some n.line.number else writer b a)) → Tells b u c v
+tells_call b c u v n state changers writers = (made n ∷ [], told_call b u n c v state writers changers)

@@ -13,6 +13,8 @@ use Rattle.its_plain.specs.Answer.{gicr_read}
 use Rattle.its_plain.specs.Plain.{Plain, Translator, maps_of, regs_of, pending_of}
 use Rattle.its_plain.specs.declared.call.Call.{Call}
 use Rattle.its_plain.specs.declared.call.Call.TheVariants as call
+use Rattle.its_plain.specs.declared.call.Reply.{Reply}
+use Rattle.its_plain.specs.declared.call.Reply.TheVariants as reply
 use Rattle.its_plain.specs.declared.call.Route.{Route}
 use Rattle.its_plain.specs.declared.call.Route.TheVariants as route
 use Rattle.its_types.specs.Maps.{Maps, device_of, collection_of, events_at}
@@ -135,6 +137,11 @@ register_of (Some t) off = whole_register t.regs off
 
 abbrev pub register_at : Plain → ℕ → ℕ → ℕ
 register_at u its off = register_of (slice_get u.translators its) off
+
+-- what a register read by its reply
+abbrev pub value_in : Reply → ℕ
+value_in (reply.Value value) = value
+value_in _ = 0
 
 -- the same of the LPI registers of a virtual processor: GICR_CTLR has 32 bits
 unfoldable pub lpi_register_at : Plain → ℕ → ℕ → ℕ

@@ -65,12 +65,26 @@ fn push_lines(out: &mut String, story: &mut Story, report: &[u8]) -> Result<(), 
 {
     let mut ended = false;
     for line in report.split(|b| *b == b'\n') {
-        if !line.is_empty() {
-            story.tell(out, line)?;
-            ended = line == b"done".as_slice();
-        }
+        ended = push_line(out, story, line, ended)?;
     }
     if ended { Ok(()) } else { story.push_stop(out) }
+}
+
+/// Tells a line of a run's report that has bytes; whether the last of those is `done`.
+fn push_line(
+    out: &mut String,
+    story: &mut Story,
+    line: &[u8],
+    ended: bool,
+) -> Result<bool, AllocError>
+    ensures { OnOk result
+        (Tells story.old.book story.old.machine story.new.book story.new.machine) }
+{
+    if line.is_empty() {
+        return Ok(ended);
+    }
+    story.tell(out, line)?;
+    Ok(line == b"done".as_slice())
 }
 
 /// What a check of a script and a report came to: why it isn't a report, or why it is that of no
@@ -156,7 +170,7 @@ fn tell_lines(
         (Tells story.old.book story.old.machine story.new.book story.new.machine) }
 {
     for line in report.split(|b| *b == b'\n') {
-        if !line.is_empty() && tell_line(alloc, told, out, story, line)? == Told::Wrong {
+        if tell_line(alloc, told, out, story, line)? == Told::Wrong {
             return Ok(Told::Wrong);
         }
     }
@@ -173,6 +187,9 @@ fn tell_line(
     ensures { OnOk result
         (Tells story.old.book story.old.machine story.new.book story.new.machine) }
 {
+    if line.is_empty() {
+        return Ok(Told::Right);
+    }
     let mut one = String::new(alloc);
     let came = story.tell(&mut one, line)?;
     match came {

@@ -1,6 +1,6 @@
 //! The machine on which the calls of a report are made again, and what is looked up in it.
 ghost use Rattle.std.specs.Prelude.{◌≡◌};
-ghost use Rattle.its_explain.specs.Looks.{whole_register};
+ghost use Rattle.its_explain.specs.Looks.{value_in as read_value, whole_register};
 ghost use Rattle.its_plain.specs.Machine.{IsDescription};
 
 use crate::views::{bases_seen, idle_seen, lpi_seen, pair_seen, rule_seen, waiting_seen};
@@ -187,10 +187,18 @@ impl Replayed {
         ensures value { IfOk result (λ v. v ≡ plain.gicr_read self.old vcpu.0 off size) }
     {
         let read = Call::ReadGicr { vcpu, off, size };
-        match self.machine.answer(self.alloc, &read)? {
-            Reply::Value(value) => Ok(value),
-            _ => Ok(0),
-        }
+        let reply = self.machine.answer(self.alloc, &read)?;
+        Ok(value_in(&reply))
+    }
+}
+
+/// What a register read.
+fn value_in(reply: &Reply) -> u64
+    ensures { result ≡ read_value reply.now }
+{
+    match *reply {
+        Reply::Value(value) => value,
+        _ => 0,
     }
 }
 

@@ -145,8 +145,9 @@ impl<'a> Story<'a> {
     {
         let came = self.make(next)?;
         let place = self.places;
+        let told = tell_made(self.alloc, out, line, entry, place, &next.call, &came)?;
         self.places = place.saturating_add(1);
-        tell_made(self.alloc, out, line, entry, place, &next.call, &came)
+        Ok(told)
     }
 
     /// Makes a call, says what came of it, and keeps what it changed.
