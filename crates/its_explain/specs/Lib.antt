@@ -1,10 +1,14 @@
 pub mod Acks
 pub mod Book
+pub mod Discards
+pub mod Effects
 pub mod Events
 pub mod Facts
 pub mod Looks
 pub mod Mappings
 pub mod Numbers
+pub mod RegisterValues
+pub mod Rereads
 pub mod Signals
 pub mod Steps
 pub mod Taken

@@ -265,7 +265,8 @@ fn push_not_pending(out: &mut String, vcpu: Vcpu, intid: Intid) -> Result<(), Al
 
 #[tactic(auto, unfolding(crate::specs::Acks::no_lpi_text))]
 fn push_no_lpi(out: &mut String, intid: Intid) -> Result<(), AllocError>
-    ensures { OnOk result (string_bytes out.new ≡ string_bytes out.old ++ spec.no_lpi_text intid.0) }
+    ensures { OnOk result
+        (string_bytes out.new ≡ string_bytes out.old ++ spec.no_lpi_text intid.0) }
 {
     push_wide(out, "", intid.0)?;
     out.push_str(" is no LPI's number (section 2.2)")

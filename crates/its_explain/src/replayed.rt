@@ -1,5 +1,7 @@
 //! The machine on which the calls of a report are made again, and what is looked up in it.
+ghost use Rattle.its_explain.specs.Views as spec;
 ghost use Rattle.its_plain.specs.Machine.{IsDescription};
+ghost use Rattle.std.specs.Prelude.{◌≡◌};
 
 use crate::views::{bases_seen, idle_seen, lpi_seen, pair_seen, rule_seen, waiting_seen};
 use call_facts::{IdleCause, LpiState, PairState, Waiting, WriteRule};
@@ -84,7 +86,9 @@ impl Replayed {
     }
 
     /// How large the machine is.
-    pub fn shape(&self) -> Shape {
+    pub fn shape(&self) -> Shape
+        ensures { result ≡ self.now.layout.shape }
+    {
         self.machine.parts().layout.shape
     }
 
@@ -146,7 +150,9 @@ impl Replayed {
     }
 
     /// What the 64-bit register of a translator reads that has an offset, or the 32-bit one.
-    pub fn register(&self, its: u8, off: u32) -> u64 {
+    pub fn register(&self, its: u8, off: u32) -> u64
+        ensures { result ≡ spec.register_at self.now its off }
+    {
         match self.translator(its) {
             Some(translator) => read_whole(translator, off),
             None => 0,
@@ -166,7 +172,10 @@ impl Replayed {
     }
 }
 
-fn read_whole(translator: TranslatorRef<'_>, off: u32) -> u64 {
+#[tactic(auto, unfolding(crate::specs::Views::whole_register))]
+fn read_whole(translator: TranslatorRef<'_>, off: u32) -> u64
+    ensures { result ≡ spec.whole_register translator.entry.regs.now off }
+{
     let regs = translator.regs;
     match off {
         0x0 | 0x4 | 0xffe8 => regs.read(off, 4),
