@@ -9,13 +9,14 @@ ghost use Rattle.its_plain.specs.Answer.{reply_of};
 
 use crate::book::Book;
 use crate::call_lines::CallLine;
+use crate::difference::{push_difference, push_right, says};
 use crate::entries::{Entry, entry_of};
 use crate::facts::{Fact, Taken};
 use crate::left::{Left, Missing, Next, count_calls, cut};
 use crate::lines::{first_words, number};
 use crate::replayed::Replayed;
-use crate::replies::push_reply;
-use crate::show::{push_bytes, push_folded, push_heading, push_plain};
+use crate::said::push_said;
+use crate::show::{push_folded, push_heading};
 use crate::sources::Sources;
 use crate::watch::Watch;
 use event_script::{Leg, Move, Script};
@@ -214,23 +215,14 @@ impl<'a> Story<'a> {
         taken: Option<&Taken>,
         made: &Made,
     ) -> Result<(), AllocError> {
+        let sources = Sources {
+            book: &self.book,
+            machine: &self.machine,
+            fact: made.fact,
+            taken,
+        };
         let mut said = String::new(self.alloc);
-        let number = next.line.number;
-        write!(&mut said, "line {number}: ")?;
-        let text = next.line.text(self.input);
-        if made.reply == Reply::Ok && is_written_as(text) {
-            said.push_str("`")?;
-            push_trimmed(&mut said, text)?;
-            said.push_str("`")?;
-        } else {
-            let sources = Sources {
-                book: &self.book,
-                machine: &self.machine,
-                fact: made.fact,
-                taken,
-            };
-            push_reply(&mut said, &sources, &next.call, &made.reply)?;
-        }
+        push_said(&mut said, self.input, &sources, next, &made.reply)?;
         out.push_str("        ")?;
         push_folded(out, said.as_str().as_bytes(), 8, 8)
     }
@@ -363,50 +355,4 @@ impl<'a> Story<'a> {
             }
         }
     }
-}
-
-/// Whether a line has this text.
-fn says(text: &str, line: &[u8]) -> bool {
-    text.as_bytes() == line
-}
-
-/// Whether a report tells the words of the line as a poke.
-fn is_written_as(line: &[u8]) -> bool {
-    let (first, _) = first_words(line);
-    first == b"command".as_slice() || first == b"word".as_slice()
-}
-
-/// Adds the fields of a line, with one space between them.
-fn push_trimmed(out: &mut String, line: &[u8]) -> Result<(), AllocError> {
-    let mut is_first = true;
-    for field in line.split(|b| *b == b' ') {
-        if !field.is_empty() {
-            if !is_first {
-                out.push(' ')?;
-            }
-            push_bytes(out, field)?;
-            is_first = false;
-        }
-    }
-    Ok(())
-}
-
-fn push_difference(out: &mut String, line: &[u8]) -> Result<(), AllocError> {
-    out.push_str("The report says\n")?;
-    push_plain(out, line)
-}
-
-/// Adds a run's line, and that a line has but spaces more than it.
-fn push_right(out: &mut String, line: &[u8], right: &[u8]) -> Result<(), AllocError> {
-    out.push_str("and a run's line is\n")?;
-    push_plain(out, right)?;
-    if has_spaces_more(line, right) {
-        out.push_str("without the spaces at its end.\n")?;
-    }
-    Ok(())
-}
-
-fn has_spaces_more(line: &[u8], right: &[u8]) -> bool {
-    let more = line.get(right.len()..).unwrap_or(&[]);
-    line.starts_with(right) && !more.is_empty() && more.iter().all(|b| *b == b' ')
 }
