@@ -7,7 +7,7 @@ use Rattle.call_facts.specs.declared.lpis.PendingChange.TheVariants as pending
 use Rattle.its_plain.specs.Plain.{Plain}
 use Rattle.its_types.specs.declared.translation.Event.{Event}
 use Rattle.its_explain.specs.Events.{around, event_text, place_text}
-use Rattle.its_explain.specs.Numbers.{numbered}
+use Rattle.its_explain.specs.Numbers.{enclosed, numbered}
 use Rattle.its_explain.specs.Views.{lpi_at}
 use Rattle.its_explain.specs.declared.facts.EventFact.{EventFact}
 
@@ -26,8 +26,8 @@ abbrev pub elsewhere_text : Plain → ℕ → ℕ → List ℕ
 elsewhere_text u intid zero = []
 elsewhere_text u intid (suc n) = elsewhere_text u intid n ++ standing intid n (lpi_at u n intid)
 
-unfoldable pub no_place_text : ℕ → List ℕ
-no_place_text icid = numbered (codes "; its collection ") icid ++ codes " isn't mapped, so no LPI is cleared"
+abbrev pub no_place_text : ℕ → List ℕ
+no_place_text icid = enclosed (codes "; its collection ") icid (codes " isn't mapped, so no LPI is cleared")
 
 unfoldable pub nowhere_text : Plain → Event → List ℕ
 nowhere_text u e = no_place_text e.icid.0 ++ elsewhere_text u e.intid.0 u.layout.shape.vcpus

@@ -2,16 +2,16 @@
 use Rattle.std.specs.Prelude.{ℕ, ◌==◌, if◌then◌else◌, List, [], ◌++◌, codes}
 use Rattle.its_command.specs.declared.command.Command.{Command}
 use Rattle.its_command.specs.declared.command.Command.TheVariants as command
-use Rattle.its_explain.specs.Numbers.{numbered, counted}
+use Rattle.its_explain.specs.Numbers.{enclosed, numbered, counted}
 use Rattle.its_explain.specs.Rereads.{all_reread_text}
 
 -- ---- MOVALL
 
-unfoldable pub stay_text : ℕ → List ℕ
-stay_text from = numbered (codes "what is pending at processor ") from ++ codes " stays there"
+abbrev pub stay_text : ℕ → List ℕ
+stay_text from = enclosed (codes "what is pending at processor ") from (codes " stays there")
 
-unfoldable pub none_text : ℕ → List ℕ
-none_text from = numbered (codes "no LPI is pending at processor ") from ++ codes ", so nothing changes"
+abbrev pub none_text : ℕ → List ℕ
+none_text from = enclosed (codes "no LPI is pending at processor ") from (codes ", so nothing changes")
 
 abbrev pub go_text : ℕ → List ℕ
 go_text count = if count == 1 then codes " goes" else codes " go"
@@ -26,32 +26,11 @@ movall_text from to count = if from == to then stay_text from else (if count == 
 
 abbrev pub moved_text : Command → ℕ → List ℕ
 moved_text (command.Movall from to) count = movall_text from to count
-moved_text (command.Movi dev ev icid) count = []
-moved_text (command.Int dev ev) count = []
-moved_text (command.Clear dev ev) count = []
-moved_text (command.Sync target) count = []
-moved_text (command.Mapd dev bits itt valid) count = []
-moved_text (command.Mapc icid target valid) count = []
-moved_text (command.Mapti dev ev intid icid) count = []
-moved_text (command.Mapi dev ev icid) count = []
-moved_text (command.Inv dev ev) count = []
-moved_text (command.Invall icid) count = []
-moved_text (command.Discard dev ev) count = []
-moved_text (command.Unknown op) count = []
+moved_text _ count = []
 
 -- ---- INVALL and SYNC
 
 abbrev pub plain_text : Command → List ℕ
 plain_text (command.Invall icid) = all_reread_text icid.0
 plain_text (command.Sync target) = codes "all is done already"
-plain_text (command.Movi dev ev icid) = []
-plain_text (command.Int dev ev) = []
-plain_text (command.Clear dev ev) = []
-plain_text (command.Mapd dev bits itt valid) = []
-plain_text (command.Mapc icid target valid) = []
-plain_text (command.Mapti dev ev intid icid) = []
-plain_text (command.Mapi dev ev icid) = []
-plain_text (command.Inv dev ev) = []
-plain_text (command.Movall from to) = []
-plain_text (command.Discard dev ev) = []
-plain_text (command.Unknown op) = []
+plain_text _ = []

@@ -1,3 +1,4 @@
+pub mod Accesses
 pub mod Acks
 pub mod Book
 pub mod Discards
@@ -5,9 +6,12 @@ pub mod Effects
 pub mod Events
 pub mod Facts
 pub mod Looks
+pub mod LpiWrites
 pub mod Mappings
 pub mod Numbers
+pub mod Refusals
 pub mod RegisterValues
+pub mod RegisterWrites
 pub mod Rereads
 pub mod Signals
 pub mod Steps

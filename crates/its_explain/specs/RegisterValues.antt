@@ -2,7 +2,7 @@
 use Rattle.std.specs.Prelude.{ℕ, Bool, ◌+◌, ◌*◌, ◌^◌, ◌||◌, ◌==◌, if◌then◌else◌, List, [], ◌++◌, codes, Option, Some, None}
 use Rattle.gits_regs.specs.Registers.{is_indirect, is_valid, pages, size_of, table_base}
 use Rattle.its_types.specs.Bits.{field, bit_of}
-use Rattle.its_explain.specs.Numbers.{numbered, in_hexadecimal}
+use Rattle.its_explain.specs.Numbers.{enclosed, numbered, in_hexadecimal}
 
 -- ---- a translator's (IHI 0069, section 12.19)
 
@@ -55,8 +55,8 @@ unfoldable pub offset_text : List ℕ → ℕ → List ℕ
 offset_text words value = in_hexadecimal words value ++ codes " of the queue"
 
 -- GITS_PIDR2: ArchRev
-unfoldable pub version_text : ℕ → List ℕ
-version_text value = numbered (codes "version ") (field value 4 4) ++ codes " of the architecture"
+abbrev pub version_text : ℕ → List ℕ
+version_text value = enclosed (codes "version ") (field value 4 4) (codes " of the architecture")
 
 -- the fields of the register at an offset, by its whole value
 unfoldable pub translator_fields : ℕ → ℕ → List ℕ

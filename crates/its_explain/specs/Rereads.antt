@@ -2,7 +2,7 @@
 use Rattle.std.specs.Prelude.{ℕ, Bool, beq, ◌&&◌, ◌==◌, if◌then◌else◌, List, [], ◌++◌, codes, Option, Some, None}
 use Rattle.call_facts.specs.declared.lpis.LpiState.{LpiState}
 use Rattle.its_explain.specs.Events.{lpi_text, place_text}
-use Rattle.its_explain.specs.Numbers.{numbered, in_hexadecimal}
+use Rattle.its_explain.specs.Numbers.{enclosed, in_hexadecimal}
 use Rattle.its_explain.specs.declared.facts.EventFact.{EventFact}
 
 -- ---- INV
@@ -37,5 +37,5 @@ reread_text f = codes "the configuration of " ++ lpi_text f ++ codes " is read a
 
 -- ---- INVALL
 
-unfoldable pub all_reread_text : ℕ → List ℕ
-all_reread_text icid = numbered (codes "the configurations of the LPIs of collection ") icid ++ codes " are read again"
+abbrev pub all_reread_text : ℕ → List ℕ
+all_reread_text icid = enclosed (codes "the configurations of the LPIs of collection ") icid (codes " are read again")

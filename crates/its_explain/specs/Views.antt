@@ -1,7 +1,6 @@
 -- What is told of a machine's state.
-use Rattle.std.specs.Prelude.{ℕ, ◌-◌, ◌%◌, ◌||◌, ◌==◌, nat_lt, if◌then◌else◌, Option, Some, None, slice_get}
+use Rattle.std.specs.Prelude.{ℕ, nat_lt, if◌then◌else◌, Option, Some, None, slice_get}
 use Rattle.std.specs.Option.{option_map}
-use Rattle.gits_regs.specs.Registers.{Registers, is_32, read_reg}
 use Rattle.its_plain.specs.Plain.{Plain, Translator, redistributor}
 use Rattle.its_types.specs.declared.translation.Bases.{Bases}
 use Rattle.call_facts.specs.Lpis.{lpi_state, waiting}
@@ -27,15 +26,3 @@ waiting_for u vcpu = if nat_lt vcpu u.layout.shape.vcpus then waiting (redistrib
 -- its LPI registers
 abbrev pub bases_at : Plain → ℕ → Option Bases
 bases_at u vcpu = if nat_lt vcpu u.layout.shape.vcpus then Some (redistributor u vcpu).bases else None
-
--- what the 64-bit register reads that has an offset, or the 32-bit one
-unfoldable pub whole_register : Registers → ℕ → ℕ
-whole_register r off = if is_32 off then read_reg r off 4 else read_reg r (off - off % 8) 8
-
--- that of a translator, if there is one
-abbrev pub register_in : Option Translator → ℕ → ℕ
-register_in None off = 0
-register_in (Some t) off = whole_register t.regs off
-
-abbrev pub register_at : Plain → ℕ → ℕ → ℕ
-register_at u its off = register_in (slice_get u.translators its) off

@@ -6,7 +6,7 @@ ghost use Rattle.its_explain.specs.Effects as spec;
 use crate::event_commands::push_event_effect;
 use crate::facts::Fact;
 use crate::mappings::{push_collection, push_device};
-use crate::numbers::{push_count, push_numbered};
+use crate::numbers::{push_count, push_enclosed, push_numbered};
 use crate::rereads::push_all_reread;
 use crate::sources::Sources;
 use its_command::Command;
@@ -63,20 +63,17 @@ fn push_movall(out: &mut String, from: u64, to: u64, count: u64) -> Result<(), A
     }
 }
 
-#[tactic(auto, unfolding(crate::specs::Effects::stay_text))]
 fn push_stay(out: &mut String, from: u64) -> Result<(), AllocError>
     ensures { OnOk result (string_bytes out.new ≡ string_bytes out.old ++ spec.stay_text from) }
 {
-    push_numbered(out, "what is pending at processor ", from)?;
-    out.push_str(" stays there")
+    push_enclosed(out, "what is pending at processor ", from, " stays there")
 }
 
-#[tactic(auto, unfolding(crate::specs::Effects::none_text))]
 fn push_none(out: &mut String, from: u64) -> Result<(), AllocError>
     ensures { OnOk result (string_bytes out.new ≡ string_bytes out.old ++ spec.none_text from) }
 {
-    push_numbered(out, "no LPI is pending at processor ", from)?;
-    out.push_str(", so nothing changes")
+    let after = ", so nothing changes";
+    push_enclosed(out, "no LPI is pending at processor ", from, after)
 }
 
 #[tactic(auto, unfolding(crate::specs::Effects::all_text))]

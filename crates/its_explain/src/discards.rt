@@ -6,7 +6,7 @@ ghost use Rattle.its_explain.specs.Views.{lpi_at};
 
 use crate::event_commands::{push_around, push_event, push_place};
 use crate::facts::EventFact;
-use crate::numbers::{push_small, push_wide};
+use crate::numbers::{push_enclosed, push_small, push_wide};
 use crate::replayed::Replayed;
 use call_facts::{LpiState, PendingChange, pending_change};
 use its_types::{Event, Icid, Intid, Target, Vcpu};
@@ -81,13 +81,12 @@ fn push_nowhere(out: &mut String, machine: &Replayed, event: Event) -> Result<()
     push_elsewhere(out, machine, event.intid)
 }
 
-#[tactic(auto, unfolding(crate::specs::Discards::no_place_text))]
 fn push_no_place(out: &mut String, icid: Icid) -> Result<(), AllocError>
     ensures { OnOk result
         (string_bytes out.new ≡ string_bytes out.old ++ spec.no_place_text icid.0) }
 {
-    push_small(out, "; its collection ", icid.0)?;
-    out.push_str(" isn't mapped, so no LPI is cleared")
+    let after = " isn't mapped, so no LPI is cleared";
+    push_enclosed(out, "; its collection ", u64::from(icid.0), after)
 }
 
 /// Adds where an LPI is pending.

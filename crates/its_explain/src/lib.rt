@@ -2,6 +2,7 @@
 //! what may stand there, or each call with a sentence.
 #![tactic(auto)]
 
+mod access;
 mod acks;
 mod authors;
 mod book;
@@ -20,13 +21,17 @@ mod grammar;
 mod left;
 mod lines;
 mod looks;
+mod lpi_writes;
 mod machine_fault;
 mod many;
 mod mappings;
 mod missing;
+mod named;
 mod near;
 mod numbers;
+mod off;
 mod order;
+mod ranges;
 mod refused;
 mod register_values;
 mod register_writes;

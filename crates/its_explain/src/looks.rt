@@ -1,6 +1,7 @@
 //! Looks at a machine before a call and after it, from which a fact is made.
 ghost use Rattle.std.specs.Prelude.{◌≡◌};
 ghost use Rattle.its_explain.specs.Looks as spec;
+ghost use Rattle.its_explain.specs.Watched.{maps_at};
 ghost use Rattle.its_explain.specs.Steps.{command_of, taken_at, taken_of};
 ghost use Rattle.std.specs.Option.{option_map};
 
@@ -255,13 +256,17 @@ impl Replayed {
     }
 
     /// What a device is mapped to.
-    pub fn device(&self, its: u8, dev: DeviceId) -> Option<Device> {
+    pub fn device(&self, its: u8, dev: DeviceId) -> Option<Device>
+        ensures { result ≡ spec.device_in (maps_at self.now its) dev }
+    {
         let translator = self.translator(its)?;
         translator.maps.device(dev)
     }
 
     /// Where a collection goes.
-    pub fn collection(&self, its: u8, icid: Icid) -> Option<Vcpu> {
+    pub fn collection(&self, its: u8, icid: Icid) -> Option<Vcpu>
+        ensures { result ≡ spec.collection_in (maps_at self.now its) icid }
+    {
         let translator = self.translator(its)?;
         translator.maps.collection(icid)
     }

@@ -5,7 +5,7 @@ ghost use Rattle.std.specs.String.{string_bytes};
 ghost use Rattle.gits_regs.specs.Registers as regs;
 ghost use Rattle.its_explain.specs.RegisterValues as spec;
 
-use crate::numbers::{push_in_hexadecimal, push_numbered};
+use crate::numbers::{push_enclosed, push_in_hexadecimal, push_numbered};
 use its_types::{bit_of, field};
 use std::alloc::AllocError;
 
@@ -116,13 +116,11 @@ fn push_offset(out: &mut String, words: &str, value: u64) -> Result<(), AllocErr
     out.push_str(" of the queue")
 }
 
-#[tactic(auto, unfolding(crate::specs::RegisterValues::version_text))]
 fn push_version(out: &mut String, value: u64) -> Result<(), AllocError>
     ensures { OnOk result
         (string_bytes out.new ≡ string_bytes out.old ++ spec.version_text value) }
 {
-    push_numbered(out, "version ", field(value, 4, 4))?;
-    out.push_str(" of the architecture")
+    push_enclosed(out, "version ", field(value, 4, 4), " of the architecture")
 }
 
 #[tactic(auto, unfolding(crate::specs::RegisterValues::typer_text))]
@@ -231,7 +229,11 @@ fn push_lpi_fields(out: &mut String, off: u32, value: u64) -> Result<(), AllocEr
         0x0 => push_on(out, value),
         0x70 | 0x74 => push_config_table(out, value),
         0x78 | 0x7c => {
-            push_in_hexadecimal(out, "the pending table at ", field(value, 16, 36) * 0x1_0000)
+            push_in_hexadecimal(
+                out,
+                "the pending table at ",
+                field(value, 16, 36) * 0x1_0000,
+            )
         }
         _ => out.push_str("it reads zero"),
     }
@@ -252,6 +254,10 @@ fn push_config_table(out: &mut String, value: u64) -> Result<(), AllocError>
     ensures { OnOk result
         (string_bytes out.new ≡ string_bytes out.old ++ spec.config_table_text value) }
 {
-    push_in_hexadecimal(out, "the configuration table at ", field(value, 12, 40) * 4096)?;
+    push_in_hexadecimal(
+        out,
+        "the configuration table at ",
+        field(value, 12, 40) * 4096,
+    )?;
     push_numbered(out, ", IDbits ", field(value, 0, 5))
 }

@@ -1,5 +1,5 @@
 //! The machine on which the calls of a report are made again, and what is looked up in it.
-ghost use Rattle.its_explain.specs.Views as spec;
+ghost use Rattle.its_explain.specs.Looks.{whole_register};
 ghost use Rattle.its_plain.specs.Machine.{IsDescription};
 ghost use Rattle.std.specs.Prelude.{◌≡◌};
 
@@ -35,7 +35,7 @@ impl Replayed {
     ghost use Rattle.std.specs.Option.{option_map};
     ghost use Rattle.call_facts.specs.Idle.{idle_cause};
     ghost use Rattle.call_facts.specs.Pairs.{pair_state};
-    ghost use Rattle.its_explain.specs.Looks.{lpi_of};
+    ghost use Rattle.its_explain.specs.Looks.{lpi_of, register_at};
     ghost use Rattle.its_explain.specs.Views as spec;
     ghost use Rattle.its_plain.specs.Answer as plain;
     ghost use Rattle.its_plain.specs.Plain.{maps_of, regs_of};
@@ -151,7 +151,7 @@ impl Replayed {
 
     /// What the 64-bit register of a translator reads that has an offset, or the 32-bit one.
     pub fn register(&self, its: u8, off: u32) -> u64
-        ensures { result ≡ spec.register_at self.now its off }
+        ensures { result ≡ register_at self.now its off }
     {
         match self.translator(its) {
             Some(translator) => read_whole(translator, off),
@@ -172,9 +172,9 @@ impl Replayed {
     }
 }
 
-#[tactic(auto, unfolding(crate::specs::Views::whole_register))]
+#[tactic(auto, unfolding(crate::specs::Looks::whole_register))]
 fn read_whole(translator: TranslatorRef<'_>, off: u32) -> u64
-    ensures { result ≡ spec.whole_register translator.entry.regs.now off }
+    ensures { result ≡ whole_register translator.entry.regs.now off }
 {
     let regs = translator.regs;
     match off {

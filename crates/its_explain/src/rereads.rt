@@ -5,7 +5,7 @@ ghost use Rattle.its_explain.specs.Rereads as spec;
 
 use crate::event_commands::{push_lpi, push_place};
 use crate::facts::EventFact;
-use crate::numbers::{push_hex_byte, push_small};
+use crate::numbers::{push_enclosed, push_hex_byte};
 use call_facts::LpiState;
 use its_types::Icid;
 use std::alloc::AllocError;
@@ -85,15 +85,10 @@ fn push_enabled(out: &mut String, enabled: bool) -> Result<(), AllocError>
 }
 
 /// Adds what INVALL did.
-#[tactic(auto, unfolding(crate::specs::Rereads::all_reread_text))]
 pub fn push_all_reread(out: &mut String, icid: Icid) -> Result<(), AllocError>
     ensures { OnOk result
         (string_bytes out.new ≡ string_bytes out.old ++ spec.all_reread_text icid.0) }
 {
-    push_small(
-        out,
-        "the configurations of the LPIs of collection ",
-        icid.0,
-    )?;
-    out.push_str(" are read again")
+    let before = "the configurations of the LPIs of collection ";
+    push_enclosed(out, before, u64::from(icid.0), " are read again")
 }
