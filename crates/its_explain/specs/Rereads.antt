@@ -1,5 +1,5 @@
 -- Which configurations commands read again, in words.
-use Rattle.std.specs.Prelude.{ℕ, Bool, beq, ◌&&◌, ◌==◌, if◌then◌else◌, List, [], ◌++◌, codes, Option, Some, None}
+use Rattle.std.specs.Prelude.{ℕ, Bool, not, ◌&&◌, ◌==◌, if◌then◌else◌, List, [], ◌++◌, codes, Option, Some, None}
 use Rattle.call_facts.specs.declared.lpis.LpiState.{LpiState}
 use Rattle.its_explain.specs.Events.{lpi_text, place_text}
 use Rattle.its_explain.specs.Numbers.{enclosed, in_hexadecimal}
@@ -13,8 +13,11 @@ enabled_text enabled = if enabled then codes "enabled" else codes "not enabled"
 unfoldable pub configuration_text : LpiState → List ℕ
 configuration_text s = enabled_text s.enabled ++ in_hexadecimal (codes " of priority ") s.priority
 
+abbrev pub is_enabled_alike : LpiState → LpiState → Bool
+is_enabled_alike was now = if was.enabled then now.enabled else not now.enabled
+
 abbrev pub is_configured_alike : LpiState → LpiState → Bool
-is_configured_alike was now = beq was.enabled now.enabled && was.priority == now.priority
+is_configured_alike was now = is_enabled_alike was now && was.priority == now.priority
 
 unfoldable pub other_text : LpiState → List ℕ
 other_text was = codes ", before " ++ configuration_text was

@@ -70,7 +70,7 @@ fn push_reads(out: &mut String, value: u64, kept: u64) -> Result<(), AllocError>
 #[tactic(auto, unfolding(crate::specs::Accesses::ignored_text))]
 pub fn push_ignored(out: &mut String, name: Option<&'static str>) -> Result<(), AllocError>
     ensures { OnOk result (string_bytes out.new ≡ string_bytes out.old
-        ++ spec.ignored_text (option_map (λ n. n.now) name)) }
+        ++ spec.ignored_text (option_map (λ n. n.now) name.entry)) }
 {
     out.push_str("ignored: ")?;
     out.push_str(name_or(name))
@@ -78,7 +78,7 @@ pub fn push_ignored(out: &mut String, name: Option<&'static str>) -> Result<(), 
 
 /// The name of a register, if it has one.
 fn name_or(name: Option<&'static str>) -> &'static str
-    ensures { result.now ≡ spec.name_or (option_map (λ n. n.now) name) }
+    ensures { result.now ≡ spec.name_or (option_map (λ n. n.now) name.entry) }
 {
     match name {
         Some(name) => name,

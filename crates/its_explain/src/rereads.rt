@@ -53,10 +53,20 @@ fn push_before(out: &mut String, was: LpiState, now: LpiState) -> Result<(), All
     ensures { OnOk result
         (string_bytes out.new ≡ string_bytes out.old ++ spec.before_text was now) }
 {
-    if was.enabled == now.enabled && was.priority == now.priority {
+    if is_enabled_alike(was, now) && was.priority == now.priority {
         out.push_str(", as before")
     } else {
         push_other(out, was)
+    }
+}
+
+fn is_enabled_alike(was: LpiState, now: LpiState) -> bool
+    ensures { result ≡ spec.is_enabled_alike was now }
+{
+    if was.enabled {
+        now.enabled
+    } else {
+        !now.enabled
     }
 }
 
