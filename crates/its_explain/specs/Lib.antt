@@ -1,6 +1,7 @@
 pub mod Accesses
 pub mod Acks
 pub mod Book
+pub mod Chosen
 pub mod Discards
 pub mod Effects
 pub mod Events
@@ -12,8 +13,10 @@ pub mod Numbers
 pub mod Refusals
 pub mod RegisterValues
 pub mod RegisterWrites
+pub mod Replies
 pub mod Rereads
 pub mod Signals
+pub mod Since
 pub mod Steps
 pub mod Taken
 pub mod Views

@@ -2,6 +2,7 @@
 ghost use Rattle.std.specs.Prelude.{◌≡◌, ◌++◌, OnOk};
 ghost use Rattle.std.specs.String.{string_bytes};
 ghost use Rattle.its_explain.specs.Acks as spec;
+ghost use Rattle.its_explain.specs.Chosen.{ack_text};
 
 use crate::facts::Fact;
 use crate::numbers::{push_enclosed, push_hex_byte, push_small, push_wide};
@@ -17,7 +18,10 @@ pub fn push_ack(
     sources: &Sources,
     call: &Call,
     ack: Ack,
-) -> Result<(), AllocError> {
+) -> Result<(), AllocError>
+    ensures { OnOk result (string_bytes out.new ≡ string_bytes out.old
+        ++ ack_text sources.now.machine.now sources.now.fact call.now ack) }
+{
     let (machine, fact) = (sources.machine, &sources.fact);
     match *call {
         Call::Take(vcpu) => push_take(out, machine.bases(vcpu), fact, vcpu, ack),

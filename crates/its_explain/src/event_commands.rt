@@ -1,6 +1,7 @@
 //! What commands did that named an event, for people.
 ghost use Rattle.std.specs.Prelude.{◌≡◌, ◌++◌, OnOk};
 ghost use Rattle.std.specs.String.{string_bytes};
+ghost use Rattle.its_explain.specs.Chosen.{Adds, event_effect};
 ghost use Rattle.its_explain.specs.Events as spec;
 
 use crate::discards::push_discarded;
@@ -20,7 +21,11 @@ pub fn push_event_effect(
     sources: &Sources,
     command: &Command,
     fact: &EventFact,
-) -> Result<(), AllocError> {
+) -> Result<(), AllocError>
+    ensures { OnOk result
+        (Adds (event_effect sources.now.book.now fact.now command.now)
+        (string_bytes out.old) (string_bytes out.new)) }
+{
     match *command {
         Command::Mapti { .. } | Command::Mapi { .. } => push_mapped(out, sources, fact),
         Command::Movi { .. } => push_moved(out, fact),

@@ -1,12 +1,16 @@
 //! What came of a call, behind the number of its line.
+ghost use Rattle.std.specs.Prelude.{◌≡◌, true, OnOk};
+ghost use Rattle.std.specs.String.{string_bytes};
+ghost use Rattle.its_explain.specs.Chosen.{Adds, may_be_as_written, said_of_line};
+
 use crate::left::Next;
 use crate::lines::first_words;
+use crate::numbers::push_enclosed;
 use crate::replies::push_reply;
 use crate::show::push_bytes;
 use crate::sources::Sources;
-use its_plain::Reply;
+use its_plain::{Call, Reply};
 use std::alloc::AllocError;
-use std::fmt::Write;
 
 /// Adds the line of a call, and what came of the call.
 pub fn push_said(
@@ -15,19 +19,31 @@ pub fn push_said(
     sources: &Sources,
     next: &Next,
     reply: &Reply,
-) -> Result<(), AllocError> {
-    let number = next.line.number;
-    write!(out, "line {number}: ")?;
+) -> Result<(), AllocError>
+    ensures { OnOk result (Adds (said_of_line sources.now.book.now sources.now.machine.now
+        sources.now.fact sources.now.taken next.now.call next.now.line.number reply.now)
+        (string_bytes out.old) (string_bytes out.new)) }
+{
+    push_enclosed(out, "line ", next.line.number, ": ")?;
     let text = next.line.text(input);
-    if *reply == Reply::Ok && is_written_as(text) {
+    if is_as_written(&next.call, reply, text) {
         push_as_written(out, text)
     } else {
         push_reply(out, sources, &next.call, reply)
     }
 }
 
-/// Whether a report tells the words of the line as a poke.
-fn is_written_as(line: &[u8]) -> bool {
+/// Whether a call is told by the words of its line.
+fn is_as_written(call: &Call, reply: &Reply, line: &[u8]) -> bool
+    ensures { result ≡ true → may_be_as_written call.now reply.now ≡ true }
+{
+    match (call, reply) {
+        (Call::Poke { .. }, Reply::Ok) => is_command_or_word(line),
+        _ => false,
+    }
+}
+
+fn is_command_or_word(line: &[u8]) -> bool {
     let (first, _) = first_words(line);
     first == b"command".as_slice() || first == b"word".as_slice()
 }
