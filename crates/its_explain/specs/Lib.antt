@@ -2,7 +2,6 @@ pub mod Accesses
 pub mod Acks
 pub mod Book
 pub mod Chosen
-pub mod Discards
 pub mod Effects
 pub mod Events
 pub mod Facts
@@ -19,5 +18,6 @@ pub mod Signals
 pub mod Since
 pub mod Steps
 pub mod Taken
+pub mod Unmapped
 pub mod Views
 pub mod Watched

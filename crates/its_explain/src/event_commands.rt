@@ -4,12 +4,12 @@ ghost use Rattle.std.specs.String.{string_bytes};
 ghost use Rattle.its_explain.specs.Chosen.{Adds, event_effect};
 ghost use Rattle.its_explain.specs.Events as spec;
 
-use crate::discards::push_discarded;
 use crate::facts::EventFact;
 use crate::numbers::{push_small, push_wide};
 use crate::rereads::push_read_again;
 use crate::signals::push_standing;
 use crate::sources::Sources;
+use crate::unmapped::push_unmapped;
 use call_facts::{EventChange, Key, PendingChange, event_change, pending_change};
 use its_command::Command;
 use its_types::{Event, Icid, Intid, Vcpu};
@@ -31,7 +31,7 @@ pub fn push_event_effect(
         Command::Movi { .. } => push_moved(out, fact),
         Command::Int { .. } => push_set(out, fact),
         Command::Clear { .. } => push_cleared(out, fact),
-        Command::Discard { .. } => push_discarded(out, sources.machine, fact),
+        Command::Discard { .. } => push_unmapped(out, sources.machine, fact),
         Command::Inv { .. } => push_read_again(out, fact),
         _ => Ok(()),
     }

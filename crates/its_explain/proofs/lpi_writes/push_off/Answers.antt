@@ -6,4 +6,6 @@ use Rattle.its_explain.proofs.lpi_writes.push_off.Goals as goal
 pub returns : goal.returns
 unfolding off_text
 returns c =
-    onto c.push_without_if.result _ (string_bytes c.push_str.new.self) (string_bytes c.args.out.now) _ _ c.in_ok-push_str.ensures.bytes c.push_without_if.ensures
+    onto c.push_without_if.result _ (string_bytes c.push_str.new.self) (string_bytes c.args.out.now) _ _
+      c.in_ok-push_str.ensures.bytes
+      c.push_without_if.ensures

@@ -6,4 +6,6 @@ use Rattle.its_explain.proofs.refused.push_missing.Goals as goal
 pub returns : goal.returns
 unfolding missing_text
 returns c =
-    rw c.from.ensures at (onto c.push_since.result _ (string_bytes c.push_enclosed.new.out) (string_bytes c.args.out.now) _ _ c.in_ok-push_enclosed.ensures c.push_since.ensures)
+    rw c.from.ensures at (onto c.push_since.result _ (string_bytes c.push_enclosed.new.out) (string_bytes c.args.out.now) _ _
+      c.in_ok-push_enclosed.ensures
+      c.push_since.ensures)

@@ -6,4 +6,9 @@ use Rattle.its_explain.proofs.register_writes.push_not_valid.Goals as goal
 pub returns : goal.returns
 unfolding not_valid_text
 returns c =
-    rw c.bit_of.ensures at (rw c.are_valid.ensures at (onto c.push_if_not_valid-3.result _ (string_bytes c.push_if_not_valid-2.new.out) (string_bytes c.args.out.now) _ _ (joined (string_bytes c.push_if_not_valid-2.new.out) (string_bytes c.push_if_not_valid.new.out) (string_bytes c.args.out.now) _ _ c.in_ok-push_if_not_valid.ensures c.in_ok-push_if_not_valid-2.ensures) c.push_if_not_valid-3.ensures))
+    rw c.bit_of.ensures at (rw c.are_valid.ensures at (
+    onto c.push_if_not_valid-3.result _ (string_bytes c.push_if_not_valid-2.new.out) (string_bytes c.args.out.now) _ _
+      (joined (string_bytes c.push_if_not_valid-2.new.out) (string_bytes c.push_if_not_valid.new.out) (string_bytes c.args.out.now) _ _
+        c.in_ok-push_if_not_valid.ensures
+        c.in_ok-push_if_not_valid-2.ensures)
+      c.push_if_not_valid-3.ensures))

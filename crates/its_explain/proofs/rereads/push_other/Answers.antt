@@ -6,4 +6,6 @@ use Rattle.its_explain.proofs.rereads.push_other.Goals as goal
 pub returns : goal.returns
 unfolding other_text
 returns c =
-    onto c.push_configuration.result _ (string_bytes c.push_str.new.self) (string_bytes c.args.out.now) _ _ c.in_ok-push_str.ensures.bytes c.push_configuration.ensures
+    onto c.push_configuration.result _ (string_bytes c.push_str.new.self) (string_bytes c.args.out.now) _ _
+      c.in_ok-push_str.ensures.bytes
+      c.push_configuration.ensures

@@ -1,7 +1,7 @@
 use Rattle.std.specs.String.{string_bytes}
-use Rattle.its_explain.specs.Discards.{stays_text}
+use Rattle.its_explain.specs.Unmapped.{stays_text}
 use Rattle.its_explain.proofs.Texts.{onto}
-use Rattle.its_explain.proofs.discards.push_stays.Goals as goal
+use Rattle.its_explain.proofs.unmapped.push_stays.Goals as goal
 
 pub returns : goal.returns
 unfolding stays_text

@@ -1,7 +1,7 @@
 //! What DISCARD did, for people.
 ghost use Rattle.std.specs.Prelude.{◌≡◌, ◌++◌, OnOk, Some};
 ghost use Rattle.std.specs.String.{string_bytes};
-ghost use Rattle.its_explain.specs.Discards as spec;
+ghost use Rattle.its_explain.specs.Unmapped as spec;
 ghost use Rattle.its_explain.specs.Views.{lpi_at};
 
 use crate::event_commands::{push_around, push_event, push_place};
@@ -13,14 +13,14 @@ use its_types::{Event, Icid, Intid, Target, Vcpu};
 use std::alloc::AllocError;
 
 /// Adds what DISCARD did, on the machine after it.
-#[tactic(auto, unfolding(crate::specs::Discards::discarded_text))]
-pub fn push_discarded(
+#[tactic(auto, unfolding(crate::specs::Unmapped::unmapped_text))]
+pub fn push_unmapped(
     out: &mut String,
     machine: &Replayed,
     fact: &EventFact,
 ) -> Result<(), AllocError>
     ensures { OnOk result (string_bytes out.new
-        ≡ string_bytes out.old ++ spec.discarded_text machine.now fact.now) }
+        ≡ string_bytes out.old ++ spec.unmapped_text machine.now fact.now) }
 {
     push_event(out, fact)?;
     out.push_str(" is unmapped")?;
@@ -54,7 +54,7 @@ fn push_by_change(
     }
 }
 
-#[tactic(auto, unfolding(crate::specs::Discards::ended_text))]
+#[tactic(auto, unfolding(crate::specs::Unmapped::ended_text))]
 fn push_ended(out: &mut String, fact: &EventFact, intid: Intid) -> Result<(), AllocError>
     ensures { OnOk result
         (string_bytes out.new ≡ string_bytes out.old ++ spec.ended_text fact.now intid.0) }
@@ -63,7 +63,7 @@ fn push_ended(out: &mut String, fact: &EventFact, intid: Intid) -> Result<(), Al
     push_place(out, fact.before.target)
 }
 
-#[tactic(auto, unfolding(crate::specs::Discards::still_text))]
+#[tactic(auto, unfolding(crate::specs::Unmapped::still_text))]
 fn push_still(out: &mut String, fact: &EventFact, intid: Intid) -> Result<(), AllocError>
     ensures { OnOk result
         (string_bytes out.new ≡ string_bytes out.old ++ spec.still_text fact.now intid.0) }
@@ -72,7 +72,7 @@ fn push_still(out: &mut String, fact: &EventFact, intid: Intid) -> Result<(), Al
     push_place(out, fact.before.target)
 }
 
-#[tactic(auto, unfolding(crate::specs::Discards::nowhere_text))]
+#[tactic(auto, unfolding(crate::specs::Unmapped::nowhere_text))]
 fn push_nowhere(out: &mut String, machine: &Replayed, event: Event) -> Result<(), AllocError>
     ensures { OnOk result
         (string_bytes out.new ≡ string_bytes out.old ++ spec.nowhere_text machine.now event) }
@@ -127,7 +127,7 @@ fn push_standing(
     }
 }
 
-#[tactic(auto, unfolding(crate::specs::Discards::stays_text))]
+#[tactic(auto, unfolding(crate::specs::Unmapped::stays_text))]
 fn push_stays(out: &mut String, intid: Intid, vcpu: Vcpu) -> Result<(), AllocError>
     ensures { OnOk result
         (string_bytes out.new ≡ string_bytes out.old ++ spec.stays_text intid.0 vcpu.0) }

@@ -53,5 +53,5 @@ abbrev pub lpi_of_event : Plain → EventFact → Option Event → List ℕ
 lpi_of_event u f None = []
 lpi_of_event u f (Some e) = by_change u f e (pending_change f.was f.is)
 
-unfoldable pub discarded_text : Plain → EventFact → List ℕ
-discarded_text u f = event_text f ++ codes " is unmapped" ++ lpi_of_event u f f.before.event
+unfoldable pub unmapped_text : Plain → EventFact → List ℕ
+unmapped_text u f = event_text f ++ codes " is unmapped" ++ lpi_of_event u f f.before.event
