@@ -7,5 +7,5 @@ pub returns : goal.returns
 unfolding reads_text
 returns c =
     onto c.push_in_hexadecimal-2.result _ (string_bytes c.push_in_hexadecimal.new.out) (string_bytes c.args.out.now) _ _
-      c.in_ok-push_in_hexadecimal.ensures
-      c.push_in_hexadecimal-2.ensures
+    c.in_ok-push_in_hexadecimal.ensures
+    c.push_in_hexadecimal-2.ensures

@@ -7,5 +7,5 @@ pub returns : goal.returns
 unfolding off_text
 returns c =
     onto c.push_without_if.result _ (string_bytes c.push_str.new.self) (string_bytes c.args.out.now) _ _
-      c.in_ok-push_str.ensures.bytes
-      c.push_without_if.ensures
+    c.in_ok-push_str.ensures.bytes
+    c.push_without_if.ensures

@@ -7,5 +7,5 @@ pub returns : goal.returns
 unfolding same_text
 returns c =
     onto c.push_str.result _ (string_bytes c.push_lpi_value.new.out) (string_bytes c.args.out.now) _ _
-      c.in_ok-push_lpi_value.ensures
-      (pushed c.push_str.result _ (string_bytes c.push_lpi_value.new.out) _ c.push_str.ensures.bytes)
+    c.in_ok-push_lpi_value.ensures
+    (pushed c.push_str.result _ (string_bytes c.push_lpi_value.new.out) _ c.push_str.ensures.bytes)

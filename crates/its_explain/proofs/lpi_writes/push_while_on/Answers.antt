@@ -8,5 +8,5 @@ unfolding while_on_text
 returns c =
     rw c.lpi_register.ensures at (rw c.part.ensures at (
     onto c.push_in_hexadecimal.result _ (string_bytes c.push_ignored.new.out) (string_bytes c.args.out.now) _ _
-      c.in_ok-push_ignored.ensures
-      c.push_in_hexadecimal.ensures))
+    c.in_ok-push_ignored.ensures
+    c.push_in_hexadecimal.ensures))

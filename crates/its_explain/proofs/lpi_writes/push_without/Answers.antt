@@ -7,7 +7,7 @@ pub returns : goal.returns
 unfolding without_text
 returns c =
     onto c.push_pending.result _ (string_bytes c.push_count.new.out) (string_bytes c.args.out.now) _ _
-      (joined (string_bytes c.push_count.new.out) (string_bytes c.push_str.new.self) (string_bytes c.args.out.now) _ _
-        c.in_ok-push_str.ensures.bytes
-        c.in_ok-push_count.ensures)
-      c.push_pending.ensures
+    (joined (string_bytes c.push_count.new.out) (string_bytes c.push_str.new.self) (string_bytes c.args.out.now) _ _
+    c.in_ok-push_str.ensures.bytes
+    c.in_ok-push_count.ensures)
+    c.push_pending.ensures

@@ -7,5 +7,5 @@ pub returns : goal.returns
 unfolding intid_range_text
 returns c =
     rw c.greatest.ensures at (onto c.push_enclosed.result _ (string_bytes c.push_intid.new.out) (string_bytes c.args.out.now) _ _
-      c.in_ok-push_intid.ensures
-      c.push_enclosed.ensures)
+    c.in_ok-push_intid.ensures
+    c.push_enclosed.ensures)

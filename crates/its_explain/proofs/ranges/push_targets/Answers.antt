@@ -7,5 +7,5 @@ pub returns : goal.returns
 unfolding targets_text
 returns c =
     rw c.saturating_sub.ensures at (onto c.push_last.result _ (string_bytes c.push_enclosed.new.out) (string_bytes c.args.out.now) _ _
-      c.in_ok-push_enclosed.ensures
-      c.push_last.ensures)
+    c.in_ok-push_enclosed.ensures
+    c.push_last.ensures)

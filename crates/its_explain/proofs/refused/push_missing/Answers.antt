@@ -7,5 +7,5 @@ pub returns : goal.returns
 unfolding missing_text
 returns c =
     rw c.from.ensures at (onto c.push_since.result _ (string_bytes c.push_enclosed.new.out) (string_bytes c.args.out.now) _ _
-      c.in_ok-push_enclosed.ensures
-      c.push_since.ensures)
+    c.in_ok-push_enclosed.ensures
+    c.push_since.ensures)

@@ -7,5 +7,5 @@ pub returns : goal.returns
 unfolding no_collection_text
 returns c =
     onto c.push_str.result _ (string_bytes c.push_missing_if.new.out) (string_bytes c.args.out.now) _ _
-      c.in_ok-push_missing_if.ensures
-      (pushed c.push_str.result _ (string_bytes c.push_missing_if.new.out) _ c.push_str.ensures.bytes)
+    c.in_ok-push_missing_if.ensures
+    (pushed c.push_str.result _ (string_bytes c.push_missing_if.new.out) _ c.push_str.ensures.bytes)

@@ -7,7 +7,7 @@ pub returns : goal.returns
 unfolding no_device_text
 returns c =
     rw c.from.ensures at (onto c.push_str.result _ (string_bytes c.push_since.new.out) (string_bytes c.args.out.now) _ _
-      (joined (string_bytes c.push_since.new.out) (string_bytes c.push_enclosed.new.out) (string_bytes c.args.out.now) _ _
-        c.in_ok-push_enclosed.ensures
-        c.in_ok-push_since.ensures)
-      (pushed c.push_str.result _ (string_bytes c.push_since.new.out) _ c.push_str.ensures.bytes))
+    (joined (string_bytes c.push_since.new.out) (string_bytes c.push_enclosed.new.out) (string_bytes c.args.out.now) _ _
+    c.in_ok-push_enclosed.ensures
+    c.in_ok-push_since.ensures)
+    (pushed c.push_str.result _ (string_bytes c.push_since.new.out) _ c.push_str.ensures.bytes))

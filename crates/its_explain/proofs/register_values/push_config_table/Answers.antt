@@ -8,5 +8,5 @@ unfolding config_table_text
 returns c =
     rw c.field.ensures at (rw c.field-2.ensures at (
     onto c.push_numbered.result _ (string_bytes c.push_in_hexadecimal.new.out) (string_bytes c.args.out.now) _ _
-      c.in_ok-push_in_hexadecimal.ensures
-      c.push_numbered.ensures))
+    c.in_ok-push_in_hexadecimal.ensures
+    c.push_numbered.ensures))

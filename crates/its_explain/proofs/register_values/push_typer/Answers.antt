@@ -8,9 +8,9 @@ unfolding typer_text
 returns c =
     rw c.field.ensures at (rw c.field-2.ensures at (rw c.field-3.ensures at (
     onto c.push_str.result _ (string_bytes c.push_numbered-3.new.out) (string_bytes c.args.out.now) _ _
-      (joined (string_bytes c.push_numbered-3.new.out) (string_bytes c.push_numbered-2.new.out) (string_bytes c.args.out.now) _ _
-        (joined (string_bytes c.push_numbered-2.new.out) (string_bytes c.push_numbered.new.out) (string_bytes c.args.out.now) _ _
-          c.in_ok-push_numbered.ensures
-          c.in_ok-push_numbered-2.ensures)
-        c.in_ok-push_numbered-3.ensures)
-      (pushed c.push_str.result _ (string_bytes c.push_numbered-3.new.out) _ c.push_str.ensures.bytes))))
+    (joined (string_bytes c.push_numbered-3.new.out) (string_bytes c.push_numbered-2.new.out) (string_bytes c.args.out.now) _ _
+    (joined (string_bytes c.push_numbered-2.new.out) (string_bytes c.push_numbered.new.out) (string_bytes c.args.out.now) _ _
+    c.in_ok-push_numbered.ensures
+    c.in_ok-push_numbered-2.ensures)
+    c.in_ok-push_numbered-3.ensures)
+    (pushed c.push_str.result _ (string_bytes c.push_numbered-3.new.out) _ c.push_str.ensures.bytes))))

@@ -7,7 +7,7 @@ pub returns : goal.returns
 unfolding past_queue_text
 returns c =
     rw c.queue_size.ensures at (onto c.push_in_hexadecimal-3.result _ (string_bytes c.push_in_hexadecimal-2.new.out) (string_bytes c.args.out.now) _ _
-      (joined (string_bytes c.push_in_hexadecimal-2.new.out) (string_bytes c.push_in_hexadecimal.new.out) (string_bytes c.args.out.now) _ _
-        c.in_ok-push_in_hexadecimal.ensures
-        c.in_ok-push_in_hexadecimal-2.ensures)
-      c.push_in_hexadecimal-3.ensures)
+    (joined (string_bytes c.push_in_hexadecimal-2.new.out) (string_bytes c.push_in_hexadecimal.new.out) (string_bytes c.args.out.now) _ _
+    c.in_ok-push_in_hexadecimal.ensures
+    c.in_ok-push_in_hexadecimal-2.ensures)
+    c.push_in_hexadecimal-3.ensures)

@@ -7,5 +7,5 @@ pub returns : goal.returns
 unfolding read_only_text
 returns c =
     rw c.translator_register.ensures at (onto c.push_str.result _ (string_bytes c.push_ignored.new.out) (string_bytes c.args.out.now) _ _
-      c.in_ok-push_ignored.ensures
-      (pushed c.push_str.result _ (string_bytes c.push_ignored.new.out) _ c.push_str.ensures.bytes))
+    c.in_ok-push_ignored.ensures
+    (pushed c.push_str.result _ (string_bytes c.push_ignored.new.out) _ c.push_str.ensures.bytes))

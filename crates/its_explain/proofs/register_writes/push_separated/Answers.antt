@@ -7,5 +7,5 @@ pub returns : goal.returns
 unfolding separated
 returns c =
     onto c.push_str.result _ (string_bytes c.push_separator.new.out) (string_bytes c.args.out.now) _ _
-      c.in_ok-push_separator.ensures
-      (pushed c.push_str.result _ (string_bytes c.push_separator.new.out) _ c.push_str.ensures.bytes)
+    c.in_ok-push_separator.ensures
+    (pushed c.push_str.result _ (string_bytes c.push_separator.new.out) _ c.push_str.ensures.bytes)

@@ -7,9 +7,9 @@ pub returns : goal.returns
 unfolding between_text
 returns c =
     onto c.push_before.result _ (string_bytes c.push_configuration.new.out) (string_bytes c.args.out.now) _ _
-      (joined (string_bytes c.push_configuration.new.out) (string_bytes c.push_str.new.self) (string_bytes c.args.out.now) _ _
-        (joined (string_bytes c.push_str.new.self) (string_bytes c.push_place.new.out) (string_bytes c.args.out.now) _ _
-          c.in_ok-push_place.ensures
-          c.in_ok-push_str.ensures.bytes)
-        c.in_ok-push_configuration.ensures)
-      c.push_before.ensures
+    (joined (string_bytes c.push_configuration.new.out) (string_bytes c.push_str.new.self) (string_bytes c.args.out.now) _ _
+    (joined (string_bytes c.push_str.new.self) (string_bytes c.push_place.new.out) (string_bytes c.args.out.now) _ _
+    c.in_ok-push_place.ensures
+    c.in_ok-push_str.ensures.bytes)
+    c.in_ok-push_configuration.ensures)
+    c.push_before.ensures

@@ -7,5 +7,5 @@ pub returns : goal.returns
 unfolding nowhere_text
 returns c =
     onto c.push_elsewhere.result _ (string_bytes c.push_no_place.new.out) (string_bytes c.args.out.now) _ _
-      c.in_ok-push_no_place.ensures
-      c.push_elsewhere.ensures
+    c.in_ok-push_no_place.ensures
+    c.push_elsewhere.ensures
