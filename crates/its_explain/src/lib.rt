@@ -2,6 +2,7 @@
 //! what may stand there, or each call with a sentence.
 #![tactic(auto)]
 
+mod access;
 mod acks;
 mod authors;
 mod book;
@@ -20,19 +21,24 @@ mod grammar;
 mod left;
 mod lines;
 mod looks;
+mod lpi_writes;
 mod machine_fault;
 mod many;
 mod mapped;
 mod mappings;
 mod missing;
+mod named;
 mod near;
 mod numbers;
+mod off;
 mod order;
+mod ranges;
 mod refused;
 mod register_values;
 mod register_writes;
 mod replayed;
 mod replies;
+mod rereads;
 mod restore_fault;
 mod said;
 mod script_fault;
@@ -42,6 +48,7 @@ mod slot_fault;
 mod sources;
 mod story;
 mod trace_fault;
+mod unmapped;
 mod views;
 mod watch;
 mod windows;

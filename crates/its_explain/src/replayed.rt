@@ -98,7 +98,9 @@ impl Replayed {
     }
 
     /// How large the machine is.
-    pub fn shape(&self) -> Shape {
+    pub fn shape(&self) -> Shape
+        ensures { result ≡ self.now.layout.shape }
+    {
         self.machine.parts().layout.shape
     }
 

@@ -5,14 +5,16 @@ ghost use Rattle.its_explain.specs.Chosen as chosen;
 ghost use Rattle.its_explain.specs.Chosen.{Adds};
 ghost use Rattle.its_explain.specs.Replies as spec;
 
+use crate::access::Access;
 use crate::acks::push_ack;
 use crate::authors::{push_ran_by, push_refused_by};
 use crate::commands::push_effect;
 use crate::facts::{Fact, Taken};
+use crate::lpi_writes::push_lpi_write;
 use crate::numbers::{push_count, push_in_hexadecimal};
 use crate::refused::push_reason;
 use crate::register_values::{push_lpi_value, push_translator_value};
-use crate::register_writes::{Access, push_lpi_write, push_write};
+use crate::register_writes::push_write;
 use crate::signals::push_signal;
 use crate::sources::Sources;
 use call_facts::IdleCause;
