@@ -182,3 +182,9 @@ pub tells_call : (b c : Book) (u v : Plain) (n : Next) → v ≡ after u n.call
     → ((i : ℕ) (k : Key) → changer c i k ≡ (if changes u n.call i k then Some (changing_line b u n.call n.line.number) else changer b i k))
     → ((a : ℕ) → writer c a ≡ (if writes n.call (reply_of u n.call) a then Some n.line.number else writer b a)) → Tells b u c v
 tells_call b c u v n state changers writers = (made n ∷ [], told_call b u n c v state writers changers)
+
+pub tells_called : {E X : Type 0} (r : Result X E) (b c : Book) (u v : Plain) (n : Next) → OnOk r (v ≡ after u n.call)
+    → OnOk r ((i : ℕ) (k : Key) → changer c i k ≡ (if changes u n.call i k then Some (changing_line b u n.call n.line.number) else changer b i k))
+    → OnOk r ((a : ℕ) → writer c a ≡ (if writes n.call (reply_of u n.call) a then Some n.line.number else writer b a)) → OnOk r (Tells b u c v)
+tells_called (Ok x) b c u v n state changers writers = tells_call b c u v n state changers writers
+tells_called (Err e) b c u v n state changers writers = tt

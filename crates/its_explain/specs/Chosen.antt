@@ -8,6 +8,7 @@ use Rattle.its_plain.specs.Plain.{Plain}
 use Rattle.its_plain.specs.declared.call.Ack.{Ack}
 use Rattle.its_plain.specs.declared.call.Call.{Call}
 use Rattle.its_plain.specs.declared.call.Call.TheVariants as call
+use Rattle.its_plain.specs.declared.call.Reason.{Reason}
 use Rattle.its_plain.specs.declared.call.Reply.{Reply}
 use Rattle.its_plain.specs.declared.call.Reply.TheVariants as reply
 use Rattle.its_plain.specs.declared.call.StepReply.{StepReply}
@@ -15,14 +16,22 @@ use Rattle.its_plain.specs.declared.call.StepReply.TheVariants as step
 use Rattle.its_explain.specs.Acks.{take_text, show_text, first_below_text, claim_text}
 use Rattle.its_explain.specs.Book.{is_ok}
 use Rattle.its_explain.specs.Events.{mapped_if, movi_if, set_text, cleared_text}
+use Rattle.its_explain.specs.Effects.{moved_text, plain_text}
 use Rattle.its_explain.specs.Looks.{look_of, fact_of}
+use Rattle.its_explain.specs.LpiWrites.{lpi_write_text}
 use Rattle.its_explain.specs.Mappings.{device_text, collection_text}
 use Rattle.its_explain.specs.Numbers.{enclosed}
+use Rattle.its_explain.specs.Refusals.{reason_text}
+use Rattle.its_explain.specs.RegisterValues.{translator_text, lpi_text}
+use Rattle.its_explain.specs.RegisterWrites.{write_text}
 use Rattle.its_explain.specs.Replies.{idle_of, queue_fault_text, written_text, read_text, outside_text, copied_text}
+use Rattle.its_explain.specs.Rereads.{reread_text}
 use Rattle.its_explain.specs.Signals.{signal_text}
 use Rattle.its_explain.specs.Steps.{after, taken_for}
-use Rattle.its_explain.specs.Taken.{ran_text}
+use Rattle.its_explain.specs.Taken.{ran_text, refused_text}
+use Rattle.its_explain.specs.Unmapped.{unmapped_text}
 use Rattle.its_explain.specs.Views.{bases_at}
+use Rattle.its_explain.specs.declared.access.Access.{Access}
 use Rattle.its_explain.specs.declared.book.Book.{Book}
 use Rattle.its_explain.specs.declared.facts.EventFact.{EventFact}
 use Rattle.its_explain.specs.declared.facts.Fact.{Fact}
@@ -51,64 +60,88 @@ ack_text v f _ a = []
 
 -- ---- steps
 
--- a command that names an event
-abbrev pub event_effect : Book → EventFact → Command → Option (List ℕ)
-event_effect b f (command.Mapti dev ev intid icid) = Some (mapped_if b f f.after.event)
-event_effect b f (command.Mapi dev ev icid) = Some (mapped_if b f f.after.event)
-event_effect b f (command.Movi dev ev icid) = Some (movi_if f f.after.event)
-event_effect b f (command.Int dev ev) = Some (set_text f)
-event_effect b f (command.Clear dev ev) = Some (cleared_text f)
-event_effect b f (command.Discard dev ev) = None
-event_effect b f (command.Inv dev ev) = None
-event_effect b f _ = Some []
+-- a command that names an event, in the state after the step
+abbrev pub event_effect : Book → Plain → EventFact → Command → List ℕ
+event_effect b v f (command.Mapti dev ev intid icid) = mapped_if b f f.after.event
+event_effect b v f (command.Mapi dev ev icid) = mapped_if b f f.after.event
+event_effect b v f (command.Movi dev ev icid) = movi_if f f.after.event
+event_effect b v f (command.Int dev ev) = set_text f
+event_effect b v f (command.Clear dev ev) = cleared_text f
+event_effect b v f (command.Discard dev ev) = unmapped_text v f
+event_effect b v f (command.Inv dev ev) = reread_text f
+event_effect b v f _ = []
 
 -- a command that had its effect
-abbrev pub effect : Book → Fact → Command → Option (List ℕ)
-effect b (fact.Device f) c = Some (device_text b f)
-effect b (fact.Collection f) c = Some (collection_text b f)
-effect b (fact.Event f) c = event_effect b f c
-effect b _ c = None
+abbrev pub effect : Book → Plain → Fact → Command → List ℕ
+effect b v (fact.Device f) c = device_text b f
+effect b v (fact.Collection f) c = collection_text b f
+effect b v (fact.Event f) c = event_effect b v f c
+effect b v (fact.Moved count) c = moved_text c count
+effect b v _ c = plain_text c
 
-abbrev pub ran_command : Book → Fact → Taken → Option (List ℕ)
-ran_command b f t = behind (ran_text b t.addr.0) (effect b f t.command)
+abbrev pub ran_command : Book → Plain → Fact → Taken → List ℕ
+ran_command b v f t = ran_text b t.addr.0 ++ effect b v f t.command
 
-abbrev pub ran : Book → Fact → Option Taken → Option (List ℕ)
-ran b f None = Some []
-ran b f (Some t) = ran_command b f t
+abbrev pub ran : Book → Plain → Fact → Option Taken → List ℕ
+ran b v f None = []
+ran b v f (Some t) = ran_command b v f t
 
 -- one that was refused
-abbrev pub refused : Option Taken → Option (List ℕ)
-refused None = Some []
-refused (Some t) = None
+abbrev pub refused_command : Book → Plain → Taken → Reason → List ℕ
+refused_command b v t reason = refused_text b t.addr.0 ++ reason_text b v t reason
 
-abbrev pub step_text : Book → Fact → Option Taken → StepReply → Option (List ℕ)
-step_text b f t step.Idle = Some (idle_of f)
-step_text b f t (step.QueueFault addr) = Some (queue_fault_text addr.0)
-step_text b f t (step.Ran op) = ran b f t
-step_text b f t (step.Refused op reason) = refused t
+abbrev pub refused : Book → Plain → Option Taken → Reason → List ℕ
+refused b v None reason = []
+refused b v (Some t) reason = refused_command b v t reason
+
+abbrev pub step_text : Book → Plain → Fact → Option Taken → StepReply → List ℕ
+step_text b v f t step.Idle = idle_of f
+step_text b v f t (step.QueueFault addr) = queue_fault_text addr.0
+step_text b v f t (step.Ran op) = ran b v f t
+step_text b v f t (step.Refused op reason) = refused b v t reason
 
 -- ---- guest memory, and registers
 
-abbrev pub access_text : Call → Option (List ℕ)
-access_text (call.Poke addr bytes) = Some (written_text (length bytes) addr.0)
-access_text (call.Dma req addr bytes to) = Some (written_text (length bytes) addr.0)
-access_text (call.Peek addr count) = Some (read_text count addr.0)
-access_text _ = None
+abbrev pub register_read : ℕ → Fact → List ℕ
+register_read off (fact.Read value) = translator_text off value
+register_read off _ = []
+
+abbrev pub lpi_register_read : ℕ → Fact → List ℕ
+lpi_register_read off (fact.Read value) = lpi_text off value
+lpi_register_read off _ = []
+
+abbrev pub register_written : Plain → ℕ → Access → Fact → List ℕ
+register_written v its a (fact.Written f) = write_text v its a f
+register_written v its a _ = []
+
+abbrev pub lpi_register_written : Plain → Access → Fact → List ℕ
+lpi_register_written v a (fact.LpiWritten f) = lpi_write_text v a f
+lpi_register_written v a _ = []
+
+abbrev pub access_text : Plain → Fact → Call → List ℕ
+access_text v f (call.Poke addr bytes) = written_text (length bytes) addr.0
+access_text v f (call.Dma req addr bytes to) = written_text (length bytes) addr.0
+access_text v f (call.Peek addr count) = read_text count addr.0
+access_text v f (call.ReadReg its off size) = register_read off f
+access_text v f (call.ReadGicr vcpu off size) = lpi_register_read off f
+access_text v f (call.WriteReg its off size value) = register_written v its (record { off = off; size = size; value = value }) f
+access_text v f (call.WriteGicr vcpu off size value) = lpi_register_written v (record { off = off; size = size; value = value }) f
+access_text v f _ = []
 
 -- ---- each call
 
 abbrev pub reply_text : Book → Plain → Fact → Option Taken → Call → Reply → Option (List ℕ)
 reply_text b v f t c (reply.Signal s) = Some (signal_text b f s)
 reply_text b v f t c (reply.Ack a) = Some (ack_text v f c a)
-reply_text b v f t c (reply.Step s) = step_text b f t s
+reply_text b v f t c (reply.Step s) = Some (step_text b v f t s)
 reply_text b v f t c reply.Outside = Some (outside_text c)
 reply_text b v f t c (reply.SaveFault fault) = None
 reply_text b v f t c reply.Saved = Some (codes "all tables are written to guest memory")
 reply_text b v f t c (reply.Copied pages) = Some (copied_text pages)
 reply_text b v f t c reply.NoRequester = Some (codes "no `requester` line has this requester")
-reply_text b v f t c reply.Ok = access_text c
-reply_text b v f t c (reply.Bytes bytes) = access_text c
-reply_text b v f t c (reply.Value value) = access_text c
+reply_text b v f t c reply.Ok = Some (access_text v f c)
+reply_text b v f t c (reply.Bytes bytes) = Some (access_text v f c)
+reply_text b v f t c (reply.Value value) = Some (access_text v f c)
 
 -- a write of guest memory that was taken may be told as its line has it
 abbrev pub may_be_as_written : Call → Reply → Bool

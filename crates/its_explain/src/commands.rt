@@ -1,7 +1,7 @@
 //! What commands did, for people.
 ghost use Rattle.std.specs.Prelude.{◌≡◌, ◌++◌, OnOk};
 ghost use Rattle.std.specs.String.{string_bytes};
-ghost use Rattle.its_explain.specs.Chosen.{Adds, effect};
+ghost use Rattle.its_explain.specs.Chosen.{effect};
 ghost use Rattle.its_explain.specs.Effects as spec;
 
 use crate::event_commands::push_event_effect;
@@ -15,9 +15,8 @@ use std::alloc::AllocError;
 
 /// Adds what a command did that wasn't refused.
 pub fn push_effect(out: &mut String, sources: &Sources, command: &Command) -> Result<(), AllocError>
-    ensures { OnOk result
-        (Adds (effect sources.now.book.now sources.now.fact command.now)
-        (string_bytes out.old) (string_bytes out.new)) }
+    ensures { OnOk result (string_bytes out.new ≡ string_bytes out.old
+        ++ effect sources.now.book.now sources.now.machine.now sources.now.fact command.now) }
 {
     match sources.fact {
         Fact::Device(fact) => push_device(out, sources, &fact),

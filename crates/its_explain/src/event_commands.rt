@@ -1,7 +1,7 @@
 //! What commands did that named an event, for people.
 ghost use Rattle.std.specs.Prelude.{◌≡◌, ◌++◌, OnOk};
 ghost use Rattle.std.specs.String.{string_bytes};
-ghost use Rattle.its_explain.specs.Chosen.{Adds, event_effect};
+ghost use Rattle.its_explain.specs.Chosen.{event_effect};
 ghost use Rattle.its_explain.specs.Events as spec;
 
 use crate::facts::EventFact;
@@ -22,9 +22,8 @@ pub fn push_event_effect(
     command: &Command,
     fact: &EventFact,
 ) -> Result<(), AllocError>
-    ensures { OnOk result
-        (Adds (event_effect sources.now.book.now fact.now command.now)
-        (string_bytes out.old) (string_bytes out.new)) }
+    ensures { OnOk result (string_bytes out.new ≡ string_bytes out.old
+        ++ event_effect sources.now.book.now sources.now.machine.now fact.now command.now) }
 {
     match *command {
         Command::Mapti { .. } | Command::Mapi { .. } => push_mapped(out, sources, fact),

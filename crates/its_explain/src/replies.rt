@@ -15,6 +15,7 @@ use crate::numbers::{push_count, push_in_hexadecimal};
 use crate::refused::push_reason;
 use crate::register_values::{push_lpi_value, push_translator_value};
 use crate::register_writes::push_write;
+use crate::replayed::Replayed;
 use crate::signals::push_signal;
 use crate::sources::Sources;
 use call_facts::IdleCause;
@@ -64,9 +65,8 @@ fn push_copied(out: &mut String, pages: u64) -> Result<(), AllocError>
 }
 
 fn push_step(out: &mut String, sources: &Sources, step: StepReply) -> Result<(), AllocError>
-    ensures { OnOk result (Adds (chosen.step_text sources.now.book.now sources.now.fact
-        sources.now.taken step)
-        (string_bytes out.old) (string_bytes out.new)) }
+    ensures { OnOk result (string_bytes out.new ≡ string_bytes out.old ++ chosen.step_text
+        sources.now.book.now sources.now.machine.now sources.now.fact sources.now.taken step) }
 {
     match step {
         StepReply::Idle => push_idle(out, &sources.fact),
@@ -112,9 +112,8 @@ fn push_queue_fault(out: &mut String, addr: Addr) -> Result<(), AllocError>
 }
 
 fn push_ran(out: &mut String, sources: &Sources) -> Result<(), AllocError>
-    ensures { OnOk result (Adds (chosen.ran sources.now.book.now sources.now.fact
-        sources.now.taken)
-        (string_bytes out.old) (string_bytes out.new)) }
+    ensures { OnOk result (string_bytes out.new ≡ string_bytes out.old ++ chosen.ran
+        sources.now.book.now sources.now.machine.now sources.now.fact sources.now.taken) }
 {
     match sources.taken {
         Some(taken) => push_ran_command(out, sources, &taken),
@@ -123,17 +122,16 @@ fn push_ran(out: &mut String, sources: &Sources) -> Result<(), AllocError>
 }
 
 fn push_ran_command(out: &mut String, sources: &Sources, taken: &Taken) -> Result<(), AllocError>
-    ensures { OnOk result (Adds (chosen.ran_command sources.now.book.now sources.now.fact
-        taken.now)
-        (string_bytes out.old) (string_bytes out.new)) }
+    ensures { OnOk result (string_bytes out.new ≡ string_bytes out.old ++ chosen.ran_command
+        sources.now.book.now sources.now.machine.now sources.now.fact taken.now) }
 {
     push_ran_by(out, sources.book, taken)?;
     push_effect(out, sources, &taken.command)
 }
 
 fn push_refused(out: &mut String, sources: &Sources, reason: Reason) -> Result<(), AllocError>
-    ensures { OnOk result (Adds (chosen.refused sources.now.taken)
-        (string_bytes out.old) (string_bytes out.new)) }
+    ensures { OnOk result (string_bytes out.new ≡ string_bytes out.old ++ chosen.refused
+        sources.now.book.now sources.now.machine.now sources.now.taken reason) }
 {
     match sources.taken {
         Some(taken) => push_refused_command(out, sources, &taken, reason),
@@ -146,7 +144,10 @@ fn push_refused_command(
     sources: &Sources,
     taken: &Taken,
     reason: Reason,
-) -> Result<(), AllocError> {
+) -> Result<(), AllocError>
+    ensures { OnOk result (string_bytes out.new ≡ string_bytes out.old ++ chosen.refused_command
+        sources.now.book.now sources.now.machine.now taken.now reason) }
+{
     push_refused_by(out, sources.book, taken)?;
     push_reason(out, sources, taken, reason)
 }
@@ -174,15 +175,35 @@ fn push_route_outside(out: &mut String, route: Route) -> Result<(), AllocError>
 }
 
 fn push_access(out: &mut String, sources: &Sources, call: &Call) -> Result<(), AllocError>
-    ensures { OnOk result (Adds (chosen.access_text call.now)
-        (string_bytes out.old) (string_bytes out.new)) }
+    ensures { OnOk result (string_bytes out.new ≡ string_bytes out.old
+        ++ chosen.access_text sources.now.machine.now sources.now.fact call.now) }
 {
     match *call {
         Call::Poke { addr, bytes } | Call::Dma { addr, bytes, .. } => {
             push_written(out, bytes.as_slice().len() as u64, addr)
         }
         Call::Peek { addr, count } => push_read(out, u64::from(count), addr),
-        _ => push_register(out, sources, call),
+        Call::ReadReg { off, .. } => push_register_read(out, off, &sources.fact),
+        Call::ReadGicr { off, .. } => push_lpi_register_read(out, off, &sources.fact),
+        Call::WriteReg {
+            its,
+            off,
+            size,
+            value,
+        } => {
+            let access = Access { off, size, value };
+            push_register_written(out, sources.machine, its, access, &sources.fact)
+        }
+        Call::WriteGicr {
+            off,
+            size,
+            value,
+            ..
+        } => {
+            let access = Access { off, size, value };
+            push_lpi_register_written(out, sources.machine, access, &sources.fact)
+        }
+        _ => Ok(()),
     }
 }
 
@@ -206,34 +227,53 @@ fn push_read(out: &mut String, count: u64, addr: Addr) -> Result<(), AllocError>
     out.push_str(" on")
 }
 
-fn push_register(out: &mut String, sources: &Sources, call: &Call) -> Result<(), AllocError> {
-    match (*call, sources.fact) {
-        (Call::ReadReg { off, .. }, Fact::Read(value)) => push_translator_value(out, off, value),
-        (Call::ReadGicr { off, .. }, Fact::Read(value)) => push_lpi_value(out, off, value),
-        (
-            Call::WriteReg {
-                its,
-                off,
-                size,
-                value,
-            },
-            Fact::Written(fact),
-        ) => {
-            let access = Access { off, size, value };
-            push_write(out, sources.machine, its, access, &fact)
-        }
-        (
-            Call::WriteGicr {
-                off,
-                size,
-                value,
-                ..
-            },
-            Fact::LpiWritten(fact),
-        ) => {
-            let access = Access { off, size, value };
-            push_lpi_write(out, sources.machine, access, &fact)
-        }
+fn push_register_read(out: &mut String, off: u32, fact: &Fact) -> Result<(), AllocError>
+    ensures { OnOk result
+        (string_bytes out.new ≡ string_bytes out.old ++ chosen.register_read off fact.now) }
+{
+    match *fact {
+        Fact::Read(value) => push_translator_value(out, off, value),
+        _ => Ok(()),
+    }
+}
+
+fn push_lpi_register_read(out: &mut String, off: u32, fact: &Fact) -> Result<(), AllocError>
+    ensures { OnOk result
+        (string_bytes out.new ≡ string_bytes out.old ++ chosen.lpi_register_read off fact.now) }
+{
+    match *fact {
+        Fact::Read(value) => push_lpi_value(out, off, value),
+        _ => Ok(()),
+    }
+}
+
+fn push_register_written(
+    out: &mut String,
+    machine: &Replayed,
+    its: u8,
+    access: Access,
+    fact: &Fact,
+) -> Result<(), AllocError>
+    ensures { OnOk result (string_bytes out.new ≡ string_bytes out.old
+        ++ chosen.register_written machine.now its access fact.now) }
+{
+    match *fact {
+        Fact::Written(fact) => push_write(out, machine, its, access, &fact),
+        _ => Ok(()),
+    }
+}
+
+fn push_lpi_register_written(
+    out: &mut String,
+    machine: &Replayed,
+    access: Access,
+    fact: &Fact,
+) -> Result<(), AllocError>
+    ensures { OnOk result (string_bytes out.new ≡ string_bytes out.old
+        ++ chosen.lpi_register_written machine.now access fact.now) }
+{
+    match *fact {
+        Fact::LpiWritten(fact) => push_lpi_write(out, machine, access, &fact),
         _ => Ok(()),
     }
 }
