@@ -1,12 +1,10 @@
 -- What acknowledgements came to, in words.
-use Rattle.std.specs.Prelude.{ℕ, Bool, true, false, if◌then◌else◌, List, [], ◌++◌, codes, Option, Some, None}
+use Rattle.std.specs.Prelude.{ℕ, Bool, true, if◌then◌else◌, List, [], ◌++◌, codes, Option, Some, None}
 use Rattle.call_facts.specs.declared.lpis.LpiState.{LpiState}
 use Rattle.call_facts.specs.declared.lpis.Waiting.{Waiting}
 use Rattle.call_facts.specs.declared.lpis.Waiting.TheVariants as waiting
 use Rattle.its_plain.specs.declared.call.Ack.{Ack}
 use Rattle.its_plain.specs.declared.call.Ack.TheVariants as ack
-use Rattle.its_plain.specs.declared.call.Call.{Call}
-use Rattle.its_plain.specs.declared.call.Call.TheVariants as call
 use Rattle.its_types.specs.declared.translation.Bases.{Bases}
 use Rattle.its_explain.specs.Facts.{waiting_fact, claimed_fact}
 use Rattle.its_explain.specs.Numbers.{numbered, enclosed, in_hexadecimal}

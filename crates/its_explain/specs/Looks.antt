@@ -1,7 +1,6 @@
 -- What the machine says of what a call concerns, before the call and after it.
-use Rattle.std.specs.Prelude.{ℕ, Bool, ◌-◌, ◌%◌, ◌^◌, ◌==◌, ◌||◌, nat_lt, min, if◌then◌else◌, List, length, map, slice_get, Option, Some, None}
+use Rattle.std.specs.Prelude.{ℕ, Bool, ◌-◌, ◌%◌, ◌^◌, ◌==◌, ◌||◌, nat_lt, min, if◌then◌else◌, length, slice_get, Option, Some, None}
 use Rattle.std.specs.FinMap.{entries}
-use Rattle.std.specs.Option.{option_map}
 use Rattle.call_facts.specs.Idle.{idle_cause}
 use Rattle.call_facts.specs.Pairs.{pair_state, spot}
 use Rattle.call_facts.specs.declared.lpis.LpiState.{LpiState}
@@ -26,14 +25,10 @@ use Rattle.its_types.specs.declared.ids.Vcpu.{Vcpu}
 use Rattle.its_types.specs.declared.translation.Device.{Device}
 use Rattle.its_explain.specs.Views.{lpi_at, waiting_for, bases_at, rule_at}
 use Rattle.its_explain.specs.Watched.{maps_at}
-use Rattle.its_explain.specs.declared.facts.CollectionFact.{CollectionFact}
 use Rattle.its_explain.specs.declared.facts.Counts.{Counts}
-use Rattle.its_explain.specs.declared.facts.DeviceFact.{DeviceFact}
 use Rattle.its_explain.specs.declared.facts.EventFact.{EventFact}
 use Rattle.its_explain.specs.declared.facts.Fact.{Fact}
 use Rattle.its_explain.specs.declared.facts.Fact.TheVariants as fact
-use Rattle.its_explain.specs.declared.facts.LpiRegisterFact.{LpiRegisterFact}
-use Rattle.its_explain.specs.declared.facts.RegisterFact.{RegisterFact}
 use Rattle.its_explain.specs.declared.facts.Taken.{Taken}
 use Rattle.its_explain.specs.declared.looks.EventLook.{EventLook}
 use Rattle.its_explain.specs.declared.looks.Look.{Look}

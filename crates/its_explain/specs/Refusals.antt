@@ -1,12 +1,11 @@
 -- Why commands were refused, in words: the rule, the value of the command, and what the machine allows.
 use Rattle.std.specs.Prelude.{ℕ, Bool, false, not, ◌-◌, ◌*◌, ◌/◌, ◌^◌, ◌==◌, nat_lt, if◌then◌else◌, List, [], ◌++◌, codes, slice_get, Option, Some, None}
-use Rattle.call_facts.specs.Pairs.{pair_state}
 use Rattle.call_facts.specs.declared.answers.Key.TheVariants as key
 use Rattle.call_facts.specs.declared.pairs.PairState.{PairState}
 use Rattle.gits_regs.specs.Registers.{collection_places, is_indirect, pages}
 use Rattle.its_command.specs.declared.command.Command.{Command}
 use Rattle.its_command.specs.declared.command.Command.TheVariants as command
-use Rattle.its_plain.specs.Plain.{Plain, Translator, maps_of}
+use Rattle.its_plain.specs.Plain.{Plain, Translator}
 use Rattle.its_plain.specs.declared.call.Reason.{Reason}
 use Rattle.its_plain.specs.declared.call.Reason.TheVariants as reason
 use Rattle.its_types.specs.Ranges.{is_device_id}

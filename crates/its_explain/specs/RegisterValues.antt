@@ -1,5 +1,5 @@
 -- Values of registers by their fields, in words.
-use Rattle.std.specs.Prelude.{ℕ, Bool, ◌+◌, ◌*◌, ◌^◌, ◌||◌, ◌==◌, if◌then◌else◌, List, [], ◌++◌, codes, Option, Some, None}
+use Rattle.std.specs.Prelude.{ℕ, ◌+◌, ◌*◌, ◌^◌, ◌||◌, ◌==◌, if◌then◌else◌, List, [], ◌++◌, codes, Option, Some, None}
 use Rattle.gits_regs.specs.Registers.{is_indirect, is_valid, pages, size_of, table_base}
 use Rattle.its_types.specs.Bits.{field, bit_of}
 use Rattle.its_explain.specs.Numbers.{enclosed, numbered, in_hexadecimal}

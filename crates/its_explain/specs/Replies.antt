@@ -1,12 +1,12 @@
 -- What calls that concern no event, device or collection came to, in words.
-use Rattle.std.specs.Prelude.{ℕ, List, [], ◌++◌, codes, length, Option, Some, None}
+use Rattle.std.specs.Prelude.{ℕ, List, [], ◌++◌, codes, Option, Some, None}
 use Rattle.call_facts.specs.declared.idle.IdleCause.{IdleCause}
 use Rattle.call_facts.specs.declared.idle.IdleCause.TheVariants as idle
 use Rattle.its_plain.specs.declared.call.Call.{Call}
 use Rattle.its_plain.specs.declared.call.Call.TheVariants as call
 use Rattle.its_plain.specs.declared.call.Route.{Route}
 use Rattle.its_plain.specs.declared.call.Route.TheVariants as route
-use Rattle.its_explain.specs.Numbers.{enclosed, in_hexadecimal, counted}
+use Rattle.its_explain.specs.Numbers.{in_hexadecimal, counted}
 use Rattle.its_explain.specs.declared.facts.Fact.{Fact}
 use Rattle.its_explain.specs.declared.facts.Fact.TheVariants as fact
 

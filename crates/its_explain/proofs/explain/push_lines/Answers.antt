@@ -6,7 +6,7 @@ loop-line-preserved c =
     let s = c.args.story.now in
     let m = c.loop-line.story in
     let n = c.push_line.new.story in
-    tells_both s.book m.book n.book s.machine m.machine n.machine c.loop-line.invariant c.in_ok-push_line.ensures
+    tells_both s.book m.book n.book s.machine m.machine n.machine c.loop-line.invariant c.in_ok-ended.ensures
 
 pub returns-else-ended : goal.returns-else-ended
 returns-else-ended c =

@@ -1,5 +1,4 @@
-use Rattle.std.proofs.Common.{refl}
-use Rattle.its_explain.proofs.Since.{tells_move, tells_nothing, always}
+use Rattle.its_explain.proofs.Since.{tells_move, always}
 use Rattle.its_explain.proofs.story.Story.tell_move.Goals as goal
 
 pub returns-in-Ok : goal.returns-in-Ok
