@@ -7,6 +7,7 @@ pub mod Events
 pub mod Facts
 pub mod Looks
 pub mod LpiWrites
+pub mod Many
 pub mod Mappings
 pub mod Numbers
 pub mod Refusals
