@@ -1,9 +1,9 @@
 -- The command that is met is the next one.
-use Rattle.std.proofs.Common.{◌≡◌, ℕ, Bool, ◌||◌, not, List, Option, Some, None, ap, sym, ◌∙◌, if◌then◌else◌}
+use Rattle.std.proofs.Common.{◌≡◌, ℕ, Bool, List, Option, Some, None, ap, sym, ◌∙◌, if◌then◌else◌}
 use Rattle.std.specs.Option.{option_map}
 use Rattle.std.specs.Prelude.{slice_get}
 use Rattle.cmd_exec.specs.Met.{MeetsCommand, MeetsNone}
-use Rattle.gits_regs.specs.Registers.{Registers, queue_place, is_queue_empty}
+use Rattle.gits_regs.specs.Registers.{Registers, queue_place}
 use Rattle.guest_windows.specs.Windows.{Window, read_at}
 use Rattle.its_command.specs.Commands.{decoded}
 use Rattle.its_command.specs.declared.command.Command.{Command}

@@ -1,19 +1,17 @@
 -- What acknowledgements came to, in words.
-use Rattle.std.specs.Prelude.{ℕ, Bool, true, false, if◌then◌else◌, List, [], ◌++◌, codes, Option, Some, None}
+use Rattle.std.specs.Prelude.{ℕ, Bool, true, if◌then◌else◌, List, [], ◌++◌, codes, Option, Some, None}
 use Rattle.call_facts.specs.declared.lpis.LpiState.{LpiState}
 use Rattle.call_facts.specs.declared.lpis.Waiting.{Waiting}
 use Rattle.call_facts.specs.declared.lpis.Waiting.TheVariants as waiting
 use Rattle.its_plain.specs.declared.call.Ack.{Ack}
 use Rattle.its_plain.specs.declared.call.Ack.TheVariants as ack
-use Rattle.its_plain.specs.declared.call.Call.{Call}
-use Rattle.its_plain.specs.declared.call.Call.TheVariants as call
 use Rattle.its_types.specs.declared.translation.Bases.{Bases}
 use Rattle.its_explain.specs.Facts.{waiting_fact, claimed_fact}
-use Rattle.its_explain.specs.Numbers.{numbered, in_hexadecimal}
+use Rattle.its_explain.specs.Numbers.{numbered, enclosed, in_hexadecimal}
 use Rattle.its_explain.specs.declared.facts.Fact.{Fact}
 
-unfoldable pub lowest_text : ℕ → List ℕ
-lowest_text vcpu = numbered (codes "the lowest that is pending and enabled at processor ") vcpu
+abbrev pub lowest_text : ℕ → List ℕ → List ℕ
+lowest_text vcpu = enclosed (codes "the lowest that is pending and enabled at processor ") vcpu
 
 unfoldable pub not_enabled_text : ℕ → ℕ → List ℕ
 not_enabled_text vcpu intid =
@@ -54,32 +52,29 @@ none_of bases vcpu mask (Some w) = none_text bases vcpu mask w
 
 -- ---- each call
 
-unfoldable pub taken_text : ℕ → List ℕ
-taken_text vcpu = lowest_text vcpu ++ codes ", and not pending any more"
-
 unfoldable pub best_text : ℕ → ℕ → List ℕ
 best_text vcpu mask = numbered (codes "the first by priority at processor ") vcpu ++ in_hexadecimal (codes ", of those below ") mask
 
 abbrev pub take_text : Option Bases → Fact → ℕ → Ack → List ℕ
-take_text bases f vcpu (ack.Some intid priority) = taken_text vcpu
+take_text bases f vcpu (ack.Some intid priority) = lowest_text vcpu (codes ", and not pending any more")
 take_text bases f vcpu ack.None = none_of bases vcpu None (waiting_fact f)
 
 abbrev pub show_text : Option Bases → Fact → ℕ → Ack → List ℕ
-show_text bases f vcpu (ack.Some intid priority) = lowest_text vcpu
+show_text bases f vcpu (ack.Some intid priority) = lowest_text vcpu []
 show_text bases f vcpu ack.None = none_of bases vcpu None (waiting_fact f)
 
 abbrev pub first_below_text : Option Bases → Fact → ℕ → ℕ → Ack → List ℕ
 first_below_text bases f vcpu mask (ack.Some intid priority) = best_text vcpu mask
 first_below_text bases f vcpu mask ack.None = none_of bases vcpu (Some mask) (waiting_fact f)
 
-unfoldable pub claimed_text : ℕ → List ℕ
-claimed_text vcpu = numbered (codes "it was pending and enabled at processor ") vcpu ++ codes ", and isn't pending any more"
+abbrev pub claimed_text : ℕ → List ℕ
+claimed_text vcpu = enclosed (codes "it was pending and enabled at processor ") vcpu (codes ", and isn't pending any more")
 
 unfoldable pub not_pending_text : ℕ → ℕ → List ℕ
 not_pending_text vcpu intid = numbered (codes "LPI ") intid ++ numbered (codes " isn't pending at processor ") vcpu
 
-unfoldable pub no_lpi_text : ℕ → List ℕ
-no_lpi_text intid = numbered (codes "") intid ++ codes " is no LPI's number (section 2.2)"
+abbrev pub no_lpi_text : ℕ → List ℕ
+no_lpi_text intid = enclosed [] intid (codes " is no LPI's number (section 2.2)")
 
 -- by how the LPI stood
 abbrev pub not_claimed_text : ℕ → ℕ → Option LpiState → List ℕ

@@ -2,7 +2,6 @@
 use Rattle.std.specs.Prelude.{ℕ, ◌==◌, if◌then◌else◌, List, [], ◌++◌, codes, Option, Some, None}
 use Rattle.call_facts.specs.Lpis.{pending_change}
 use Rattle.call_facts.specs.Pairs.{event_change}
-use Rattle.call_facts.specs.declared.lpis.LpiState.{LpiState}
 use Rattle.call_facts.specs.declared.lpis.PendingChange.{PendingChange}
 use Rattle.call_facts.specs.declared.lpis.PendingChange.TheVariants as pending
 use Rattle.call_facts.specs.declared.pairs.EventChange.{EventChange}

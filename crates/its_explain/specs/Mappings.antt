@@ -1,10 +1,10 @@
 -- What commands did to devices and collections, in words.
-use Rattle.std.specs.Prelude.{ℕ, Bool, ◌-◌, ◌==◌, nat_lt, if◌then◌else◌, List, [], ◌++◌, codes, Option, Some, None}
+use Rattle.std.specs.Prelude.{ℕ, ◌-◌, ◌==◌, nat_lt, if◌then◌else◌, List, [], ◌++◌, codes, Option, Some, None}
 use Rattle.call_facts.specs.declared.answers.Key.TheVariants as key
 use Rattle.its_types.specs.declared.ids.Vcpu.{Vcpu}
 use Rattle.its_types.specs.declared.translation.Device.{Device}
 use Rattle.its_explain.specs.Book.{changer}
-use Rattle.its_explain.specs.Numbers.{numbered, in_hexadecimal, by_line, counted}
+use Rattle.its_explain.specs.Numbers.{numbered, enclosed, in_hexadecimal, by_line, counted}
 use Rattle.its_explain.specs.declared.book.Book.{Book}
 use Rattle.its_explain.specs.declared.facts.CollectionFact.{CollectionFact}
 use Rattle.its_explain.specs.declared.facts.DeviceFact.{DeviceFact}
@@ -30,8 +30,8 @@ mapped_text b f d =
     numbered (codes "device ") f.dev.0 ++ numbered (codes " is mapped, with ") d.bits ++ in_hexadecimal (codes " EventID bits and its table at ") d.itt.0
     ++ again_if b f f.before
 
-unfoldable pub absent_text : ℕ → List ℕ
-absent_text dev = numbered (codes "device ") dev ++ codes " isn't mapped, so nothing changes"
+abbrev pub absent_text : ℕ → List ℕ
+absent_text dev = enclosed (codes "device ") dev (codes " isn't mapped, so nothing changes")
 
 unfoldable pub with_events_text : DeviceFact → List ℕ
 with_events_text f = numbered (codes "device ") f.dev.0 ++ codes " and its " ++ counted f.events (codes "event") ++ codes " are unmapped"
@@ -52,11 +52,8 @@ device_text b f = device_after b f f.after
 abbrev pub collection_by : Book → CollectionFact → List ℕ
 collection_by b f = by_line (changer b f.its (key.Collection f.icid))
 
-unfoldable pub no_collection_text : ℕ → List ℕ
-no_collection_text icid = numbered (codes "collection ") icid ++ codes " isn't mapped, so nothing changes"
-
-unfoldable pub collection_gone_text : ℕ → List ℕ
-collection_gone_text icid = numbered (codes "collection ") icid ++ codes " is unmapped"
+abbrev pub named_text : ℕ → List ℕ → List ℕ
+named_text icid = enclosed (codes "collection ") icid
 
 unfoldable pub goes_text : ℕ → ℕ → List ℕ
 goes_text icid to = numbered (codes "collection ") icid ++ numbered (codes " goes to processor ") to
@@ -64,8 +61,8 @@ goes_text icid to = numbered (codes "collection ") icid ++ numbered (codes " goe
 unfoldable pub already_text : Book → CollectionFact → List ℕ
 already_text b f = codes " already," ++ collection_by b f
 
-unfoldable pub stays_text : ℕ → List ℕ
-stays_text from = numbered (codes "; what is pending at processor ") from ++ codes " stays there"
+abbrev pub stays_text : ℕ → List ℕ
+stays_text from = enclosed (codes "; what is pending at processor ") from (codes " stays there")
 
 unfoldable pub with_lpis_text : ℕ → List ℕ
 with_lpis_text went = codes ", with " ++ counted went (codes "pending LPI")
@@ -84,8 +81,8 @@ unfoldable pub moved_text : Book → CollectionFact → ℕ → ℕ → List ℕ
 moved_text b f from to = goes_text f.icid.0 to ++ from_text b f from to
 
 abbrev pub collection_between : Book → CollectionFact → Option Vcpu → Option Vcpu → List ℕ
-collection_between b f None None = no_collection_text f.icid.0
-collection_between b f (Some from) None = collection_gone_text f.icid.0
+collection_between b f None None = named_text f.icid.0 (codes " isn't mapped, so nothing changes")
+collection_between b f (Some from) None = named_text f.icid.0 (codes " is unmapped")
 collection_between b f None (Some to) = goes_text f.icid.0 to.0
 collection_between b f (Some from) (Some to) = moved_text b f from.0 to.0
 

@@ -9,6 +9,10 @@ numbered words n = words ++ decimal n
 unfoldable pub in_hexadecimal : List ℕ → ℕ → List ℕ
 in_hexadecimal words n = words ++ codes "0x" ++ digits 16 false n
 
+-- words, a number and words
+unfoldable pub enclosed : List ℕ → ℕ → List ℕ → List ℕ
+enclosed before n after = numbered before n ++ after
+
 -- the line whose command mapped something; where no line did, it was read from tables
 unfoldable pub by_line : Option ℕ → List ℕ
 by_line (Some line) = numbered (codes " by line ") line

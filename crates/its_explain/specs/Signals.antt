@@ -1,5 +1,5 @@
 -- Where a message went, in words: by the lines whose commands last changed what the maps answer.
-use Rattle.std.specs.Prelude.{ℕ, true, false, if◌then◌else◌, List, [], ◌++◌, codes, Option, Some, None}
+use Rattle.std.specs.Prelude.{ℕ, if◌then◌else◌, List, [], ◌++◌, codes, Option, Some, None}
 use Rattle.call_facts.specs.declared.answers.Key.TheVariants as key
 use Rattle.call_facts.specs.declared.lpis.LpiState.{LpiState}
 use Rattle.its_plain.specs.declared.call.Cause.{Cause}

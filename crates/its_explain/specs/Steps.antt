@@ -1,5 +1,5 @@
 -- What a call changes of what the maps answer, and by which line.
-use Rattle.std.specs.Prelude.{ℕ, Bool, not, ◌||◌, if◌then◌else◌, List, Option, Some, None}
+use Rattle.std.specs.Prelude.{ℕ, Bool, not, ◌||◌, if◌then◌else◌, List, Option, None}
 use Rattle.std.specs.Option.{option_map}
 use Rattle.call_facts.specs.declared.answers.Key.{Key}
 use Rattle.gits_regs.specs.Registers.{Registers, queue_place, is_queue_empty}

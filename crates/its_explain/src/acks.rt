@@ -2,9 +2,10 @@
 ghost use Rattle.std.specs.Prelude.{◌≡◌, ◌++◌, OnOk};
 ghost use Rattle.std.specs.String.{string_bytes};
 ghost use Rattle.its_explain.specs.Acks as spec;
+ghost use Rattle.its_explain.specs.Chosen.{ack_text};
 
 use crate::facts::Fact;
-use crate::numbers::{push_hex_byte, push_small, push_wide};
+use crate::numbers::{push_enclosed, push_hex_byte, push_small, push_wide};
 use crate::sources::Sources;
 use call_facts::{LpiState, Waiting};
 use its_plain::{Ack, Call};
@@ -17,7 +18,10 @@ pub fn push_ack(
     sources: &Sources,
     call: &Call,
     ack: Ack,
-) -> Result<(), AllocError> {
+) -> Result<(), AllocError>
+    ensures { OnOk result (string_bytes out.new ≡ string_bytes out.old
+        ++ ack_text sources.now.machine.now sources.now.fact call.now ack) }
+{
     let (machine, fact) = (sources.machine, &sources.fact);
     match *call {
         Call::Take(vcpu) => push_take(out, machine.bases(vcpu), fact, vcpu, ack),
@@ -40,7 +44,7 @@ pub fn push_take(
         ≡ string_bytes out.old ++ spec.take_text bases fact.now vcpu.0 ack) }
 {
     match ack {
-        Ack::Some { .. } => push_taken(out, vcpu),
+        Ack::Some { .. } => push_lowest(out, vcpu, ", and not pending any more"),
         Ack::None => push_none_of(out, bases, vcpu, None, fact.waiting()),
     }
 }
@@ -57,7 +61,7 @@ pub fn push_show(
         ≡ string_bytes out.old ++ spec.show_text bases fact.now vcpu.0 ack) }
 {
     match ack {
-        Ack::Some { .. } => push_lowest(out, vcpu),
+        Ack::Some { .. } => push_lowest(out, vcpu, ""),
         Ack::None => push_none_of(out, bases, vcpu, None, fact.waiting()),
     }
 }
@@ -80,14 +84,6 @@ pub fn push_best(
     }
 }
 
-#[tactic(auto, unfolding(crate::specs::Acks::taken_text))]
-fn push_taken(out: &mut String, vcpu: Vcpu) -> Result<(), AllocError>
-    ensures { OnOk result (string_bytes out.new ≡ string_bytes out.old ++ spec.taken_text vcpu.0) }
-{
-    push_lowest(out, vcpu)?;
-    out.push_str(", and not pending any more")
-}
-
 #[tactic(auto, unfolding(crate::specs::Acks::best_text))]
 fn push_first_below(out: &mut String, vcpu: Vcpu, mask: u8) -> Result<(), AllocError>
     ensures { OnOk result
@@ -97,14 +93,15 @@ fn push_first_below(out: &mut String, vcpu: Vcpu, mask: u8) -> Result<(), AllocE
     push_hex_byte(out, ", of those below ", mask)
 }
 
-#[tactic(auto, unfolding(crate::specs::Acks::lowest_text))]
-fn push_lowest(out: &mut String, vcpu: Vcpu) -> Result<(), AllocError>
-    ensures { OnOk result (string_bytes out.new ≡ string_bytes out.old ++ spec.lowest_text vcpu.0) }
+fn push_lowest(out: &mut String, vcpu: Vcpu, words: &str) -> Result<(), AllocError>
+    ensures { OnOk result
+        (string_bytes out.new ≡ string_bytes out.old ++ spec.lowest_text vcpu.0 words.now) }
 {
-    push_small(
+    push_enclosed(
         out,
         "the lowest that is pending and enabled at processor ",
-        vcpu.0,
+        u64::from(vcpu.0),
+        words,
     )
 }
 
@@ -219,18 +216,14 @@ pub fn push_claim(
         ≡ string_bytes out.old ++ spec.claim_text fact.now vcpu.0 intid.0 ack) }
 {
     match ack {
-        Ack::Some { .. } => push_claimed(out, vcpu),
+        Ack::Some { .. } => push_enclosed(
+            out,
+            "it was pending and enabled at processor ",
+            u64::from(vcpu.0),
+            ", and isn't pending any more",
+        ),
         Ack::None => push_not_claimed(out, vcpu, intid, fact.claimed()),
     }
-}
-
-#[tactic(auto, unfolding(crate::specs::Acks::claimed_text))]
-fn push_claimed(out: &mut String, vcpu: Vcpu) -> Result<(), AllocError>
-    ensures { OnOk result
-        (string_bytes out.new ≡ string_bytes out.old ++ spec.claimed_text vcpu.0) }
-{
-    push_small(out, "it was pending and enabled at processor ", vcpu.0)?;
-    out.push_str(", and isn't pending any more")
 }
 
 fn push_not_claimed(
@@ -250,7 +243,12 @@ fn push_not_claimed(
                 push_not_pending(out, vcpu, intid)
             }
         }
-        None => push_no_lpi(out, intid),
+        None => push_enclosed(
+            out,
+            "",
+            u64::from(intid.0),
+            " is no LPI's number (section 2.2)",
+        ),
     }
 }
 
@@ -261,12 +259,4 @@ fn push_not_pending(out: &mut String, vcpu: Vcpu, intid: Intid) -> Result<(), Al
 {
     push_wide(out, "LPI ", intid.0)?;
     push_small(out, " isn't pending at processor ", vcpu.0)
-}
-
-#[tactic(auto, unfolding(crate::specs::Acks::no_lpi_text))]
-fn push_no_lpi(out: &mut String, intid: Intid) -> Result<(), AllocError>
-    ensures { OnOk result (string_bytes out.new ≡ string_bytes out.old ++ spec.no_lpi_text intid.0) }
-{
-    push_wide(out, "", intid.0)?;
-    out.push_str(" is no LPI's number (section 2.2)")
 }

@@ -1,17 +1,19 @@
 //! What commands did that named an event, for people.
 ghost use Rattle.std.specs.Prelude.{◌≡◌, ◌++◌, OnOk};
 ghost use Rattle.std.specs.String.{string_bytes};
+ghost use Rattle.its_explain.specs.Chosen.{event_effect};
 ghost use Rattle.its_explain.specs.Events as spec;
 
 use crate::facts::EventFact;
 use crate::numbers::{push_small, push_wide};
+use crate::rereads::push_read_again;
 use crate::signals::push_standing;
 use crate::sources::Sources;
-use call_facts::{EventChange, Key, LpiState, PendingChange, event_change, pending_change};
+use crate::unmapped::push_unmapped;
+use call_facts::{EventChange, Key, PendingChange, event_change, pending_change};
 use its_command::Command;
-use its_types::{Event, Icid, Intid, Target, Vcpu};
+use its_types::{Event, Icid, Intid, Vcpu};
 use std::alloc::AllocError;
-use std::fmt::Write;
 
 /// Adds what a command did that names an event.
 pub fn push_event_effect(
@@ -19,13 +21,16 @@ pub fn push_event_effect(
     sources: &Sources,
     command: &Command,
     fact: &EventFact,
-) -> Result<(), AllocError> {
+) -> Result<(), AllocError>
+    ensures { OnOk result (string_bytes out.new ≡ string_bytes out.old
+        ++ event_effect sources.now.book.now sources.now.machine.now fact.now command.now) }
+{
     match *command {
         Command::Mapti { .. } | Command::Mapi { .. } => push_mapped(out, sources, fact),
         Command::Movi { .. } => push_moved(out, fact),
         Command::Int { .. } => push_set(out, fact),
         Command::Clear { .. } => push_cleared(out, fact),
-        Command::Discard { .. } => push_discarded(out, sources, fact),
+        Command::Discard { .. } => push_unmapped(out, sources.machine, fact),
         Command::Inv { .. } => push_read_again(out, fact),
         _ => Ok(()),
     }
@@ -33,8 +38,9 @@ pub fn push_event_effect(
 
 /// Adds the event and its device.
 #[tactic(auto, unfolding(crate::specs::Events::event_text))]
-fn push_event(out: &mut String, fact: &EventFact) -> Result<(), AllocError>
-    ensures { OnOk result (string_bytes out.new ≡ string_bytes out.old ++ spec.event_text fact.now) }
+pub fn push_event(out: &mut String, fact: &EventFact) -> Result<(), AllocError>
+    ensures { OnOk result
+        (string_bytes out.new ≡ string_bytes out.old ++ spec.event_text fact.now) }
 {
     push_wide(out, "event ", fact.ev.0)?;
     push_wide(out, " of device ", fact.dev.0)
@@ -42,7 +48,7 @@ fn push_event(out: &mut String, fact: &EventFact) -> Result<(), AllocError>
 
 /// Adds the event's LPI, as it was mapped before.
 #[tactic(auto, unfolding(crate::specs::Events::lpi_text))]
-fn push_lpi(out: &mut String, fact: &EventFact) -> Result<(), AllocError>
+pub fn push_lpi(out: &mut String, fact: &EventFact) -> Result<(), AllocError>
     ensures { OnOk result (string_bytes out.new ≡ string_bytes out.old ++ spec.lpi_text fact.now) }
 {
     push_lpi_name(out, fact.before.event)?;
@@ -67,7 +73,7 @@ fn push_lpi_number(out: &mut String, intid: Intid) -> Result<(), AllocError>
 }
 
 /// Adds a processor, if there is one.
-fn push_place(out: &mut String, target: Option<Vcpu>) -> Result<(), AllocError>
+pub fn push_place(out: &mut String, target: Option<Vcpu>) -> Result<(), AllocError>
     ensures { OnOk result (string_bytes out.new ≡ string_bytes out.old ++ spec.place_text target) }
 {
     match target {
@@ -77,7 +83,8 @@ fn push_place(out: &mut String, target: Option<Vcpu>) -> Result<(), AllocError>
 }
 
 fn push_mapped(out: &mut String, sources: &Sources, fact: &EventFact) -> Result<(), AllocError>
-    ensures { OnOk result (string_bytes out.new ≡ string_bytes out.old ++ spec.mapped_if sources.now.book.now fact.now fact.now.after.event) }
+    ensures { OnOk result (string_bytes out.new ≡ string_bytes out.old
+        ++ spec.mapped_if sources.now.book.now fact.now fact.now.after.event) }
 {
     match fact.after.event {
         Some(event) => push_mapped_as(out, sources, fact, event),
@@ -92,7 +99,8 @@ fn push_mapped_as(
     fact: &EventFact,
     event: Event,
 ) -> Result<(), AllocError>
-    ensures { OnOk result (string_bytes out.new ≡ string_bytes out.old ++ spec.mapped_text sources.now.book.now fact.now event) }
+    ensures { OnOk result (string_bytes out.new ≡ string_bytes out.old
+        ++ spec.mapped_text sources.now.book.now fact.now event) }
 {
     push_event(out, fact)?;
     push_mapping(out, sources, fact, event)
@@ -104,7 +112,8 @@ fn push_mapping(
     fact: &EventFact,
     event: Event,
 ) -> Result<(), AllocError>
-    ensures { OnOk result (string_bytes out.new ≡ string_bytes out.old ++ spec.mapping_text sources.now.book.now fact.now event) }
+    ensures { OnOk result (string_bytes out.new ≡ string_bytes out.old
+        ++ spec.mapping_text sources.now.book.now fact.now event) }
 {
     match event_change(fact.before.event, fact.after.event) {
         EventChange::Mapped => push_new(out, fact, event),
@@ -114,14 +123,16 @@ fn push_mapping(
 
 #[tactic(auto, unfolding(crate::specs::Events::new_text))]
 fn push_new(out: &mut String, fact: &EventFact, event: Event) -> Result<(), AllocError>
-    ensures { OnOk result (string_bytes out.new ≡ string_bytes out.old ++ spec.new_text fact.now event) }
+    ensures { OnOk result
+        (string_bytes out.new ≡ string_bytes out.old ++ spec.new_text fact.now event) }
 {
     push_lpi_of(out, " is LPI ", event)?;
     push_unless_mapped(out, fact.after.target)
 }
 
 fn push_unless_mapped(out: &mut String, target: Option<Vcpu>) -> Result<(), AllocError>
-    ensures { OnOk result (string_bytes out.new ≡ string_bytes out.old ++ spec.unless_mapped target) }
+    ensures { OnOk result
+        (string_bytes out.new ≡ string_bytes out.old ++ spec.unless_mapped target) }
 {
     match target {
         Some(_) => Ok(()),
@@ -131,7 +142,8 @@ fn push_unless_mapped(out: &mut String, target: Option<Vcpu>) -> Result<(), Allo
 
 #[tactic(auto, unfolding(crate::specs::Events::lpi_of_text))]
 fn push_lpi_of(out: &mut String, words: &str, event: Event) -> Result<(), AllocError>
-    ensures { OnOk result (string_bytes out.new ≡ string_bytes out.old ++ spec.lpi_of_text words.now event) }
+    ensures { OnOk result
+        (string_bytes out.new ≡ string_bytes out.old ++ spec.lpi_of_text words.now event) }
 {
     push_wide(out, words, event.intid.0)?;
     push_small(out, " of collection ", event.icid.0)
@@ -144,7 +156,8 @@ fn push_kept(
     fact: &EventFact,
     event: Event,
 ) -> Result<(), AllocError>
-    ensures { OnOk result (string_bytes out.new ≡ string_bytes out.old ++ spec.kept_text sources.now.book.now fact.now event) }
+    ensures { OnOk result (string_bytes out.new ≡ string_bytes out.old
+        ++ spec.kept_text sources.now.book.now fact.now event) }
 {
     push_lpi_of(out, " stays LPI ", event)?;
     out.push_str(", as it was mapped")?;
@@ -153,7 +166,8 @@ fn push_kept(
 }
 
 fn push_moved(out: &mut String, fact: &EventFact) -> Result<(), AllocError>
-    ensures { OnOk result (string_bytes out.new ≡ string_bytes out.old ++ spec.movi_if fact.now fact.now.after.event) }
+    ensures { OnOk result (string_bytes out.new ≡ string_bytes out.old
+        ++ spec.movi_if fact.now fact.now.after.event) }
 {
     match fact.after.event {
         Some(event) => push_movi(out, fact, event),
@@ -162,7 +176,8 @@ fn push_moved(out: &mut String, fact: &EventFact) -> Result<(), AllocError>
 }
 
 fn push_movi(out: &mut String, fact: &EventFact, event: Event) -> Result<(), AllocError>
-    ensures { OnOk result (string_bytes out.new ≡ string_bytes out.old ++ spec.movi_text fact.now event) }
+    ensures { OnOk result
+        (string_bytes out.new ≡ string_bytes out.old ++ spec.movi_text fact.now event) }
 {
     match event_change(fact.before.event, fact.after.event) {
         EventChange::Kept => push_same_collection(out, fact, event.icid),
@@ -172,7 +187,8 @@ fn push_movi(out: &mut String, fact: &EventFact, event: Event) -> Result<(), All
 
 #[tactic(auto, unfolding(crate::specs::Events::same_collection_text))]
 fn push_same_collection(out: &mut String, fact: &EventFact, icid: Icid) -> Result<(), AllocError>
-    ensures { OnOk result (string_bytes out.new ≡ string_bytes out.old ++ spec.same_collection_text fact.now icid.0) }
+    ensures { OnOk result
+        (string_bytes out.new ≡ string_bytes out.old ++ spec.same_collection_text fact.now icid.0) }
 {
     push_event(out, fact)?;
     push_small(out, " is of collection ", icid.0)?;
@@ -181,7 +197,8 @@ fn push_same_collection(out: &mut String, fact: &EventFact, icid: Icid) -> Resul
 
 #[tactic(auto, unfolding(crate::specs::Events::moved_text))]
 fn push_goes(out: &mut String, fact: &EventFact, event: Event) -> Result<(), AllocError>
-    ensures { OnOk result (string_bytes out.new ≡ string_bytes out.old ++ spec.moved_text fact.now event) }
+    ensures { OnOk result
+        (string_bytes out.new ≡ string_bytes out.old ++ spec.moved_text fact.now event) }
 {
     push_event(out, fact)?;
     push_small(out, " goes to collection ", event.icid.0)?;
@@ -190,7 +207,8 @@ fn push_goes(out: &mut String, fact: &EventFact, event: Event) -> Result<(), All
 
 /// Adds from where to where an event's LPI goes, and whether it was pending.
 fn push_way(out: &mut String, fact: &EventFact, intid: Intid) -> Result<(), AllocError>
-    ensures { OnOk result (string_bytes out.new ≡ string_bytes out.old ++ spec.way_between fact.now intid.0 fact.now.before.target fact.now.after.target) }
+    ensures { OnOk result (string_bytes out.new ≡ string_bytes out.old
+        ++ spec.way_between fact.now intid.0 fact.now.before.target fact.now.after.target) }
 {
     match (fact.before.target, fact.after.target) {
         (Some(from), Some(to)) => push_between(out, fact, intid, from, to),
@@ -205,7 +223,8 @@ fn push_between(
     from: Vcpu,
     to: Vcpu,
 ) -> Result<(), AllocError>
-    ensures { OnOk result (string_bytes out.new ≡ string_bytes out.old ++ spec.way_text fact.now intid.0 from.0 to.0) }
+    ensures { OnOk result (string_bytes out.new ≡ string_bytes out.old
+        ++ spec.way_text fact.now intid.0 from.0 to.0) }
 {
     let change = pending_change(fact.was, fact.is);
     if from.0 == to.0 {
@@ -222,7 +241,8 @@ fn push_here(
     intid: Intid,
     to: Vcpu,
 ) -> Result<(), AllocError>
-    ensures { OnOk result (string_bytes out.new ≡ string_bytes out.old ++ spec.here_text change intid.0 to.0) }
+    ensures { OnOk result
+        (string_bytes out.new ≡ string_bytes out.old ++ spec.here_text change intid.0 to.0) }
 {
     push_small(out, ", at processor ", to.0)?;
     out.push_str(" as before")?;
@@ -230,7 +250,8 @@ fn push_here(
 }
 
 fn push_at_same(out: &mut String, change: PendingChange, intid: Intid) -> Result<(), AllocError>
-    ensures { OnOk result (string_bytes out.new ≡ string_bytes out.old ++ spec.at_same change intid.0) }
+    ensures { OnOk result
+        (string_bytes out.new ≡ string_bytes out.old ++ spec.at_same change intid.0) }
 {
     match change {
         PendingChange::Stayed => push_stays_pending(out, intid),
@@ -240,7 +261,8 @@ fn push_at_same(out: &mut String, change: PendingChange, intid: Intid) -> Result
 
 #[tactic(auto, unfolding(crate::specs::Events::stays_pending_text))]
 fn push_stays_pending(out: &mut String, intid: Intid) -> Result<(), AllocError>
-    ensures { OnOk result (string_bytes out.new ≡ string_bytes out.old ++ spec.stays_pending_text intid.0) }
+    ensures { OnOk result
+        (string_bytes out.new ≡ string_bytes out.old ++ spec.stays_pending_text intid.0) }
 {
     push_wide(out, ", and its LPI ", intid.0)?;
     out.push_str(" stays pending there")
@@ -254,7 +276,8 @@ fn push_there(
     from: Vcpu,
     to: Vcpu,
 ) -> Result<(), AllocError>
-    ensures { OnOk result (string_bytes out.new ≡ string_bytes out.old ++ spec.there_text change intid.0 from.0 to.0) }
+    ensures { OnOk result (string_bytes out.new ≡ string_bytes out.old
+        ++ spec.there_text change intid.0 from.0 to.0) }
 {
     push_small(out, ", from processor ", from.0)?;
     push_small(out, " to processor ", to.0)?;
@@ -262,7 +285,8 @@ fn push_there(
 }
 
 fn push_at_other(out: &mut String, change: PendingChange, intid: Intid) -> Result<(), AllocError>
-    ensures { OnOk result (string_bytes out.new ≡ string_bytes out.old ++ spec.at_other change intid.0) }
+    ensures { OnOk result
+        (string_bytes out.new ≡ string_bytes out.old ++ spec.at_other change intid.0) }
 {
     match change {
         PendingChange::Stayed => push_around(out, ", and its pending LPI ", intid, " too"),
@@ -273,9 +297,16 @@ fn push_at_other(out: &mut String, change: PendingChange, intid: Intid) -> Resul
     }
 }
 
+/// Adds words, an LPI's number and more words.
 #[tactic(auto, unfolding(crate::specs::Events::around))]
-fn push_around(out: &mut String, before: &str, intid: Intid, after: &str) -> Result<(), AllocError>
-    ensures { OnOk result (string_bytes out.new ≡ string_bytes out.old ++ spec.around before.now intid.0 after.now) }
+pub fn push_around(
+    out: &mut String,
+    before: &str,
+    intid: Intid,
+    after: &str,
+) -> Result<(), AllocError>
+    ensures { OnOk result
+        (string_bytes out.new ≡ string_bytes out.old ++ spec.around before.now intid.0 after.now) }
 {
     push_wide(out, before, intid.0)?;
     out.push_str(after)
@@ -293,7 +324,8 @@ fn push_set(out: &mut String, fact: &EventFact) -> Result<(), AllocError>
 
 #[tactic(auto, unfolding(crate::specs::Events::cleared_text))]
 fn push_cleared(out: &mut String, fact: &EventFact) -> Result<(), AllocError>
-    ensures { OnOk result (string_bytes out.new ≡ string_bytes out.old ++ spec.cleared_text fact.now) }
+    ensures { OnOk result
+        (string_bytes out.new ≡ string_bytes out.old ++ spec.cleared_text fact.now) }
 {
     push_lpi(out, fact)?;
     push_ended(out, fact)?;
@@ -307,69 +339,4 @@ fn push_ended(out: &mut String, fact: &EventFact) -> Result<(), AllocError>
         PendingChange::Ended => out.push_str(" is not pending any more"),
         _ => out.push_str(" was not pending"),
     }
-}
-
-fn push_discarded(out: &mut String, sources: &Sources, fact: &EventFact) -> Result<(), AllocError> {
-    push_event(out, fact)?;
-    out.push_str(" is unmapped")?;
-    let Some(Event { intid, icid }) = fact.before.event else {
-        return Ok(());
-    };
-    match pending_change(fact.was, fact.is) {
-        PendingChange::Ended => {
-            write!(out, ", and its LPI {intid} is not pending any more")?;
-            push_place(out, fact.before.target)
-        }
-        PendingChange::Nowhere => {
-            write!(
-                out,
-                "; its collection {icid} isn't mapped, so no LPI is cleared"
-            )?;
-            push_elsewhere(out, sources, intid)
-        }
-        _ => {
-            write!(out, "; its LPI {intid} was not pending")?;
-            push_place(out, fact.before.target)
-        }
-    }
-}
-
-/// Adds where an LPI is pending.
-fn push_elsewhere(out: &mut String, sources: &Sources, intid: Intid) -> Result<(), AllocError> {
-    for vcpu in 0..sources.machine.shape().vcpus {
-        let spot = Target {
-            vcpu: Vcpu(vcpu),
-            intid,
-        };
-        if let Some(LpiState { pending: true, .. }) = sources.machine.lpi(Some(spot)) {
-            write!(out, "; LPI {intid} stays pending at processor {vcpu}")?;
-        }
-    }
-    Ok(())
-}
-
-fn push_read_again(out: &mut String, fact: &EventFact) -> Result<(), AllocError> {
-    out.push_str("the configuration of ")?;
-    push_lpi(out, fact)?;
-    out.push_str(" is read again")?;
-    let (Some(was), Some(is)) = (fact.was, fact.is) else {
-        return Ok(());
-    };
-    push_place(out, fact.before.target)?;
-    out.push_str(": ")?;
-    push_configuration(out, is)?;
-    if was.enabled == is.enabled && was.priority == is.priority {
-        return out.push_str(", as before");
-    }
-    out.push_str(", before ")?;
-    push_configuration(out, was)
-}
-
-fn push_configuration(out: &mut String, state: LpiState) -> Result<(), AllocError> {
-    out.push_str(if state.enabled {
-        "enabled"
-    } else {
-        "not enabled"
-    })?;
-    write!(out, " of priority 0x{:x}", state.priority)
 }

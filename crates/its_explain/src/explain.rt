@@ -1,12 +1,15 @@
 //! What a run or a check came to, explained.
+ghost use Rattle.std.specs.Prelude.{OnOk};
+ghost use Rattle.its_explain.specs.Since.{Tells};
 ghost use Rattle.its_plain.specs.Machine.{IsDescription};
 
 use crate::call_lines::call_lines;
+use crate::came::Told;
 use crate::faults::push_script_faults;
 use crate::machine_fault::push_machine_fault;
 use crate::replayed::Replayed;
 use crate::script_fault::push_script_fault;
-use crate::story::{Story, Told};
+use crate::story::Story;
 use crate::trace_fault::push_trace_fault;
 use event_script::{Move, ParseError, Script, parse, parse_check};
 use its_history::{TraceError, parse_trace};
@@ -56,15 +59,32 @@ fn push_run(
 }
 
 /// Tells each line of a run's report, and why the run ended where the last one isn't `done`.
-fn push_lines(out: &mut String, story: &mut Story, report: &[u8]) -> Result<(), AllocError> {
+fn push_lines(out: &mut String, story: &mut Story, report: &[u8]) -> Result<(), AllocError>
+    ensures { OnOk result
+        (Tells story.old.book story.old.machine story.new.book story.new.machine) }
+{
     let mut ended = false;
     for line in report.split(|b| *b == b'\n') {
-        if !line.is_empty() {
-            story.tell(out, line)?;
-            ended = line == b"done".as_slice();
-        }
+        ended = push_line(out, story, line, ended)?;
     }
     if ended { Ok(()) } else { story.push_stop(out) }
+}
+
+/// Tells a line of a run's report that has bytes; whether the last of those is `done`.
+fn push_line(
+    out: &mut String,
+    story: &mut Story,
+    line: &[u8],
+    ended: bool,
+) -> Result<bool, AllocError>
+    ensures { OnOk result
+        (Tells story.old.book story.old.machine story.new.book story.new.machine) }
+{
+    if line.is_empty() {
+        return Ok(ended);
+    }
+    story.tell(out, line)?;
+    Ok(line == b"done".as_slice())
 }
 
 /// What a check of a script and a report came to: why it isn't a report, or why it is that of no
@@ -145,9 +165,12 @@ fn tell_lines(
     out: &mut String,
     story: &mut Story,
     report: &[u8],
-) -> Result<Told, AllocError> {
+) -> Result<Told, AllocError>
+    ensures { OnOk result
+        (Tells story.old.book story.old.machine story.new.book story.new.machine) }
+{
     for line in report.split(|b| *b == b'\n') {
-        if !line.is_empty() && tell_line(alloc, told, out, story, line)? == Told::Wrong {
+        if tell_line(alloc, told, out, story, line)? == Told::Wrong {
             return Ok(Told::Wrong);
         }
     }
@@ -160,7 +183,13 @@ fn tell_line(
     out: &mut String,
     story: &mut Story,
     line: &[u8],
-) -> Result<Told, AllocError> {
+) -> Result<Told, AllocError>
+    ensures { OnOk result
+        (Tells story.old.book story.old.machine story.new.book story.new.machine) }
+{
+    if line.is_empty() {
+        return Ok(Told::Right);
+    }
     let mut one = String::new(alloc);
     let came = story.tell(&mut one, line)?;
     match came {

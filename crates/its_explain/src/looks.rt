@@ -1,18 +1,17 @@
 //! Looks at a machine before a call and after it, from which a fact is made.
-ghost use Rattle.std.specs.Prelude.{◌≡◌};
+ghost use Rattle.std.specs.Prelude.{◌≡◌, IfOk};
+ghost use Rattle.std.specs.Option.{option_map};
 ghost use Rattle.its_explain.specs.Looks as spec;
 ghost use Rattle.its_explain.specs.Steps.{command_of, taken_at, taken_of};
-ghost use Rattle.std.specs.Option.{option_map};
 
 use crate::facts::{
-    CollectionFact, Counts, DeviceFact, EventFact, Fact, LpiRegisterFact, RegisterFact, Taken,
+    CollectionFact, DeviceFact, EventFact, Fact, LpiRegisterFact, RegisterFact, Taken,
 };
 use crate::replayed::Replayed;
 use call_facts::{LpiState, PairState};
 use cmd_exec::{Met, meet};
 use guest_windows::Memory;
 use its_command::Command;
-use its_maps::Maps;
 use its_plain::{Call, Route};
 use its_types::{Bases, Device, DeviceId, EventId, Icid, Target, Vcpu};
 use owned_parts::TranslatorRef;
@@ -75,19 +74,19 @@ impl Replayed {
         }
     }
 
-    /// Looks at what a call concerns, before it is made.
+    /// Looks at what a call concerns, before it is made. The step takes this command, if it takes
+    /// one.
     pub fn look(&mut self, call: &Call, taken: Option<&Taken>) -> Result<Look, AllocError>
-        ensures { self.new ≡ self.old }
+        ensures kept { self.new ≡ self.old }
+        ensures look { IfOk result
+            (λ l. l ≡ spec.look_of self.old (option_map (λ t. t.now) taken.entry) call.now) }
     {
         match *call {
             Call::Signal { its, dev, ev } => Ok(self.look_at_event(its, dev, ev)),
-            Call::Dma {
-                route: Route::Signal { its, dev, ev },
-                ..
-            } => Ok(self.look_at_event(its, dev, ev)),
+            Call::Dma { route, .. } => Ok(self.look_at_route(route)),
             Call::Step { its } => self.look_at_step(its, taken),
             Call::Take(vcpu) | Call::Show(vcpu) | Call::Best { vcpu, .. } => {
-                Ok(Look::Known(Fact::Waiting(self.waiting(vcpu)?)))
+                self.look_at_waiting(vcpu)
             }
             Call::Claim { vcpu, intid } => {
                 let state = self.lpi(Some(Target { vcpu, intid }));
@@ -97,7 +96,8 @@ impl Replayed {
                 Ok(Look::Known(Fact::Read(self.register(its, off))))
             }
             Call::ReadGicr { vcpu, off, .. } => {
-                Ok(Look::Known(Fact::Read(self.lpi_register(vcpu, off)?)))
+                let value = self.lpi_register(vcpu, off)?;
+                Ok(Look::Known(Fact::Read(value)))
             }
             Call::WriteReg {
                 its,
@@ -107,11 +107,21 @@ impl Replayed {
             } => Ok(self.look_at_register(its, off, size, value)),
             Call::WriteGicr { vcpu, off, .. } => self.look_at_lpi_register(vcpu, off),
             Call::Poke { .. } | Call::Peek { .. } | Call::Save | Call::Copy => Ok(Look::Nothing),
-            Call::Dma { .. } => Ok(Look::Nothing),
         }
     }
 
-    fn look_at_event(&self, its: u8, dev: DeviceId, ev: EventId) -> Look {
+    fn look_at_route(&self, route: Route) -> Look
+        ensures { result ≡ spec.route_look self.now route }
+    {
+        match route {
+            Route::Signal { its, dev, ev } => self.look_at_event(its, dev, ev),
+            Route::Poke | Route::NoRequester | Route::Frame => Look::Nothing,
+        }
+    }
+
+    fn look_at_event(&self, its: u8, dev: DeviceId, ev: EventId) -> Look
+        ensures { result ≡ spec.event_asked self.now its dev ev }
+    {
         Look::Event(self.event_look(its, dev, ev))
     }
 
@@ -128,7 +138,17 @@ impl Replayed {
         }
     }
 
-    fn look_at_step(&self, its: u8, taken: Option<&Taken>) -> Result<Look, AllocError> {
+    fn look_at_waiting(&self, vcpu: Vcpu) -> Result<Look, AllocError>
+        ensures { IfOk result (λ l. l ≡ spec.waiting_look self.now vcpu) }
+    {
+        let waiting = self.waiting(vcpu)?;
+        Ok(Look::Known(Fact::Waiting(waiting)))
+    }
+
+    fn look_at_step(&self, its: u8, taken: Option<&Taken>) -> Result<Look, AllocError>
+        ensures { IfOk result
+            (λ l. l ≡ spec.step_look self.now its (option_map (λ t. t.now) taken.entry)) }
+    {
         match taken {
             Some(taken) => self.look_at_command(its, &taken.command),
             None => {
@@ -138,7 +158,9 @@ impl Replayed {
         }
     }
 
-    fn look_at_command(&self, its: u8, command: &Command) -> Result<Look, AllocError> {
+    fn look_at_command(&self, its: u8, command: &Command) -> Result<Look, AllocError>
+        ensures { IfOk result (λ l. l ≡ spec.command_look self.now its command.now) }
+    {
         match *command {
             Command::Movi { dev, ev, .. }
             | Command::Int { dev, ev }
@@ -147,15 +169,8 @@ impl Replayed {
             | Command::Mapi { dev, ev, .. }
             | Command::Inv { dev, ev }
             | Command::Discard { dev, ev } => Ok(self.look_at_event(its, dev, ev)),
-            Command::Mapd { dev, .. } => {
-                let before = self.device(its, dev);
-                Ok(Look::Device(its, dev, before, self.count_events(its, dev)))
-            }
-            Command::Mapc { icid, .. } => {
-                let before = self.collection(its, icid);
-                let had = self.count_pending(place_of(before))?;
-                Ok(Look::Collection(its, icid, before, had))
-            }
+            Command::Mapd { dev, .. } => Ok(self.look_at_device(its, dev)),
+            Command::Mapc { icid, .. } => self.look_at_collection(its, icid),
             Command::Movall { from, .. } => {
                 let count = self.count_pending(from.get() as usize)?;
                 Ok(Look::Known(Fact::Moved(count)))
@@ -166,7 +181,24 @@ impl Replayed {
         }
     }
 
-    fn look_at_register(&self, its: u8, off: u32, size: u8, value: u64) -> Look {
+    fn look_at_device(&self, its: u8, dev: DeviceId) -> Look
+        ensures { result ≡ spec.device_look self.now its dev }
+    {
+        let before = self.device(its, dev);
+        Look::Device(its, dev, before, self.count_events(its, dev))
+    }
+
+    fn look_at_collection(&self, its: u8, icid: Icid) -> Result<Look, AllocError>
+        ensures { IfOk result (λ l. l ≡ spec.collection_look self.now its icid) }
+    {
+        let before = self.collection(its, icid);
+        let had = self.count_where(before)?;
+        Ok(Look::Collection(its, icid, before, had))
+    }
+
+    fn look_at_register(&self, its: u8, off: u32, size: u8, value: u64) -> Look
+        ensures { result ≡ spec.register_look self.now its off size value }
+    {
         let before = self.register(its, off);
         let had = self.counts(its);
         Look::Register(RegisterLook {
@@ -182,18 +214,23 @@ impl Replayed {
         })
     }
 
-    fn look_at_lpi_register(&self, vcpu: Vcpu, off: u32) -> Result<Look, AllocError> {
+    fn look_at_lpi_register(&self, vcpu: Vcpu, off: u32) -> Result<Look, AllocError>
+        ensures { IfOk result (λ l. l ≡ spec.lpi_register_look self.now vcpu off) }
+    {
+        let bases = self.bases(vcpu);
+        let had = self.count_pending(usize::from(vcpu.0))?;
         Ok(Look::LpiRegister(LpiRegisterLook {
             vcpu,
             off,
-            bases: self.bases(vcpu),
-            had: self.count_pending(usize::from(vcpu.0))?,
+            bases,
+            had,
         }))
     }
 
     /// The fact of a call that was made after this look.
     pub fn fact(&mut self, look: &Look) -> Result<Fact, AllocError>
-        ensures { self.new ≡ self.old }
+        ensures kept { self.new ≡ self.old }
+        ensures fact { IfOk result (λ f. f ≡ spec.fact_of self.old look.now) }
     {
         match *look {
             Look::Nothing => Ok(Fact::None),
@@ -206,21 +243,43 @@ impl Replayed {
                 after: self.device(its, dev),
                 events,
             })),
-            Look::Collection(its, icid, before, had) => Ok(Fact::Collection(CollectionFact {
-                its,
-                icid,
-                before,
-                after: self.collection(its, icid),
-                had,
-                has: self.count_pending(place_of(before))?,
-            })),
-            Look::Register(look) => Ok(Fact::Written(RegisterFact {
-                after: self.register(look.its, look.off),
-                has: self.counts(look.its),
-                ..look.fact
-            })),
+            Look::Collection(its, icid, before, had) => {
+                self.collection_fact(its, icid, before, had)
+            }
+            Look::Register(look) => Ok(self.register_fact(&look)),
             Look::LpiRegister(look) => self.lpi_register_fact(&look),
         }
+    }
+
+    fn collection_fact(
+        &self,
+        its: u8,
+        icid: Icid,
+        before: Option<Vcpu>,
+        had: usize,
+    ) -> Result<Fact, AllocError>
+        ensures { IfOk result (λ f. f ≡ spec.collection_fact self.now its icid before had) }
+    {
+        let after = self.collection(its, icid);
+        let has = self.count_where(before)?;
+        Ok(Fact::Collection(CollectionFact {
+            its,
+            icid,
+            before,
+            after,
+            had,
+            has,
+        }))
+    }
+
+    fn register_fact(&self, look: &RegisterLook) -> Fact
+        ensures { result ≡ spec.register_fact self.now look.now }
+    {
+        Fact::Written(RegisterFact {
+            after: self.register(look.its, look.off),
+            has: self.counts(look.its),
+            ..look.fact
+        })
     }
 
     fn event_fact(&self, look: &EventLook) -> EventFact
@@ -243,42 +302,19 @@ impl Replayed {
     }
 
     fn lpi_register_fact(&mut self, look: &LpiRegisterLook) -> Result<Fact, AllocError>
-        ensures { self.new ≡ self.old }
+        ensures kept { self.new ≡ self.old }
+        ensures fact { IfOk result (λ f. f ≡ spec.lpi_register_fact self.old look.now) }
     {
+        let after = self.bases(look.vcpu);
+        let value = self.lpi_register(look.vcpu, look.off)?;
+        let has = self.count_pending(usize::from(look.vcpu.0))?;
         Ok(Fact::LpiWritten(LpiRegisterFact {
             before: look.bases,
-            after: self.bases(look.vcpu),
-            value: self.lpi_register(look.vcpu, look.off)?,
+            after,
+            value,
             had: look.had,
-            has: self.count_pending(usize::from(look.vcpu.0))?,
+            has,
         }))
-    }
-
-    /// What a device is mapped to.
-    pub fn device(&self, its: u8, dev: DeviceId) -> Option<Device> {
-        let translator = self.translator(its)?;
-        translator.maps.device(dev)
-    }
-
-    /// Where a collection goes.
-    pub fn collection(&self, its: u8, icid: Icid) -> Option<Vcpu> {
-        let translator = self.translator(its)?;
-        translator.maps.collection(icid)
-    }
-
-    /// How many events of a device are mapped.
-    fn count_events(&self, its: u8, dev: DeviceId) -> u64 {
-        match self.translator(its) {
-            Some(translator) => count_events_of(translator.maps, dev),
-            None => 0,
-        }
-    }
-
-    fn counts(&self, its: u8) -> Counts {
-        match self.translator(its) {
-            Some(translator) => counts_of(translator.maps),
-            None => Counts::NONE,
-        }
     }
 }
 
@@ -293,34 +329,5 @@ fn next_of(translator: TranslatorRef<'_>, its: u8, memory: &Memory) -> Option<Ta
             addr: translator.regs.queue_place(),
             command,
         }),
-    }
-}
-
-/// How much is mapped.
-fn counts_of(maps: &Maps) -> Counts {
-    let mut counts = Counts::NONE;
-    for (dev, _) in maps.devices() {
-        counts.devices = counts.devices.saturating_add(1);
-        counts.events = counts.events.saturating_add(count_events_of(maps, dev));
-    }
-    for _ in maps.collections() {
-        counts.collections = counts.collections.saturating_add(1);
-    }
-    counts
-}
-
-fn count_events_of(maps: &Maps, dev: DeviceId) -> u64 {
-    let mut count = 0u64;
-    for _ in maps.events(dev) {
-        count = count.saturating_add(1);
-    }
-    count
-}
-
-/// The number of a virtual processor, or one that none has.
-fn place_of(vcpu: Option<Vcpu>) -> usize {
-    match vcpu {
-        Some(vcpu) => usize::from(vcpu.0),
-        None => usize::MAX,
     }
 }

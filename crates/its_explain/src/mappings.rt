@@ -4,10 +4,12 @@ ghost use Rattle.std.specs.String.{string_bytes};
 ghost use Rattle.its_explain.specs.Mappings as spec;
 
 use crate::facts::{CollectionFact, DeviceFact};
-use crate::numbers::{push_byte, push_count, push_in_hexadecimal, push_small, push_wide};
+use crate::numbers::{
+    push_byte, push_count, push_enclosed, push_in_hexadecimal, push_small, push_wide,
+};
 use crate::sources::Sources;
 use call_facts::Key;
-use its_types::{Device, DeviceId, Icid, Vcpu};
+use its_types::{Device, Icid, Vcpu};
 use std::alloc::AllocError;
 
 /// Adds what a command did to a device.
@@ -76,16 +78,13 @@ fn push_gone(out: &mut String, fact: &DeviceFact) -> Result<(), AllocError>
 {
     match fact.before {
         Some(_) => push_with_events(out, fact),
-        None => push_absent(out, fact.dev),
+        None => push_enclosed(
+            out,
+            "device ",
+            u64::from(fact.dev.0),
+            " isn't mapped, so nothing changes",
+        ),
     }
-}
-
-#[tactic(auto, unfolding(crate::specs::Mappings::absent_text))]
-fn push_absent(out: &mut String, dev: DeviceId) -> Result<(), AllocError>
-    ensures { OnOk result (string_bytes out.new ≡ string_bytes out.old ++ spec.absent_text dev.0) }
-{
-    push_wide(out, "device ", dev.0)?;
-    out.push_str(" isn't mapped, so nothing changes")
 }
 
 #[tactic(auto, unfolding(crate::specs::Mappings::with_events_text))]
@@ -109,29 +108,18 @@ pub fn push_collection(
         ++ spec.collection_text sources.now.book.now fact.now) }
 {
     match (fact.before, fact.after) {
-        (None, None) => push_no_collection(out, fact.icid),
-        (Some(_), None) => push_collection_gone(out, fact.icid),
+        (None, None) => push_named(out, fact.icid, " isn't mapped, so nothing changes"),
+        (Some(_), None) => push_named(out, fact.icid, " is unmapped"),
         (None, Some(to)) => push_goes(out, fact.icid, to),
         (Some(from), Some(to)) => push_moved(out, sources, fact, from, to),
     }
 }
 
-#[tactic(auto, unfolding(crate::specs::Mappings::no_collection_text))]
-fn push_no_collection(out: &mut String, icid: Icid) -> Result<(), AllocError>
+fn push_named(out: &mut String, icid: Icid, words: &str) -> Result<(), AllocError>
     ensures { OnOk result
-        (string_bytes out.new ≡ string_bytes out.old ++ spec.no_collection_text icid.0) }
+        (string_bytes out.new ≡ string_bytes out.old ++ spec.named_text icid.0 words.now) }
 {
-    push_small(out, "collection ", icid.0)?;
-    out.push_str(" isn't mapped, so nothing changes")
-}
-
-#[tactic(auto, unfolding(crate::specs::Mappings::collection_gone_text))]
-fn push_collection_gone(out: &mut String, icid: Icid) -> Result<(), AllocError>
-    ensures { OnOk result
-        (string_bytes out.new ≡ string_bytes out.old ++ spec.collection_gone_text icid.0) }
-{
-    push_small(out, "collection ", icid.0)?;
-    out.push_str(" is unmapped")
+    push_enclosed(out, "collection ", u64::from(icid.0), words)
 }
 
 #[tactic(auto, unfolding(crate::specs::Mappings::goes_text))]
@@ -205,7 +193,12 @@ fn push_lpis(out: &mut String, from: Vcpu, had: usize, went: usize) -> Result<()
     if went > 0 {
         push_with_lpis(out, went as u64)
     } else if had > 0 {
-        push_stays(out, from)
+        push_enclosed(
+            out,
+            "; what is pending at processor ",
+            u64::from(from.0),
+            " stays there",
+        )
     } else {
         Ok(())
     }
@@ -218,13 +211,4 @@ fn push_with_lpis(out: &mut String, went: u64) -> Result<(), AllocError>
 {
     out.push_str(", with ")?;
     push_count(out, went, "pending LPI")
-}
-
-#[tactic(auto, unfolding(crate::specs::Mappings::stays_text))]
-fn push_stays(out: &mut String, from: Vcpu) -> Result<(), AllocError>
-    ensures { OnOk result
-        (string_bytes out.new ≡ string_bytes out.old ++ spec.stays_text from.0) }
-{
-    push_small(out, "; what is pending at processor ", from.0)?;
-    out.push_str(" stays there")
 }

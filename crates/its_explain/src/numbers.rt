@@ -23,6 +23,21 @@ pub fn push_numbered(out: &mut String, words: &str, number: u64) -> Result<(), A
     push_decimal(out, number)
 }
 
+/// Adds words, a number in decimal and words.
+#[tactic(auto, unfolding(crate::specs::Numbers::enclosed))]
+pub fn push_enclosed(
+    out: &mut String,
+    before: &str,
+    number: u64,
+    after: &str,
+) -> Result<(), AllocError>
+    ensures { OnOk result (string_bytes out.new
+        ≡ string_bytes out.old ++ spec.enclosed before.now number after.now) }
+{
+    push_numbered(out, before, number)?;
+    out.push_str(after)
+}
+
 /// Adds words, and a number of 16 bits.
 pub fn push_small(out: &mut String, words: &str, number: u16) -> Result<(), AllocError>
     ensures { OnOk result

@@ -1,232 +1,232 @@
-//! What writes of registers came to, for people: what was kept, or the rule by which a write was
-//! ignored.
-use crate::facts::{Counts, LpiRegisterFact, RegisterFact};
-use crate::numbers::push_count;
-use crate::register_values::{
-    lpi_register, push_lpi_value, push_translator_value, translator_register,
-};
+//! What writes of a translator's registers came to, for people: what was kept, or the rule by
+//! which a write was ignored.
+ghost use Rattle.std.specs.Prelude.{◌≡◌, ◌++◌, OnOk};
+ghost use Rattle.std.specs.String.{string_bytes};
+ghost use Rattle.its_explain.specs.RegisterWrites as spec;
+
+use crate::access::{Access, push_ignored, push_kept};
+use crate::facts::{Counts, RegisterFact};
+use crate::numbers::{push_count, push_in_hexadecimal};
+use crate::register_values::{push_translator_value, queue_bytes, translator_register};
 use crate::replayed::Replayed;
-use call_facts::{LpiRule, WriteRule, lpi_rule};
-use its_types::{Bases, Intid, field, low_half};
+use call_facts::WriteRule;
+use its_types::bit_of;
 use std::alloc::AllocError;
-use std::fmt::Write;
 
-/// A write of a register.
-#[derive(Clone, Copy)]
-pub struct Access {
-    /// Where it begins.
-    pub off: u32,
-    /// How many bytes it has.
-    pub size: u8,
-    /// What is written.
-    pub value: u64,
-}
-
-impl Access {
-    /// What a whole register has where the write goes.
-    fn part(&self, whole: u64) -> u64 {
-        if self.size == 8 {
-            return whole;
-        }
-        if self.off % 8 == 4 && self.off != 4 {
-            field(whole, 32, 32)
-        } else {
-            field(whole, 0, 32)
-        }
-    }
-
-    /// What is written there.
-    fn written(&self) -> u64 {
-        if self.size == 8 {
-            self.value
-        } else {
-            field(self.value, 0, 32)
-        }
-    }
-}
-
-/// Adds what a write of a translator's register came to.
+/// Adds what a write of a translator's register came to, on the machine after it.
 pub fn push_write(
     out: &mut String,
     machine: &Replayed,
     its: u8,
     access: Access,
     fact: &RegisterFact,
-) -> Result<(), AllocError> {
-    let name = translator_register(access.off).unwrap_or("this register");
+) -> Result<(), AllocError>
+    ensures { OnOk result (string_bytes out.new
+        ≡ string_bytes out.old ++ spec.write_text machine.now its access fact.now) }
+{
     match fact.rule {
-        Some(WriteRule::Taken) => {
-            push_translator_value(out, access.off, fact.after)?;
-            if access.off != 0 {
-                push_kept(out, access, fact.after)?;
-            }
-            push_unmapped(out, fact)
-        }
-        Some(WriteRule::Same) => {
-            push_translator_value(out, access.off, fact.after)?;
-            out.push_str(", as before")
-        }
-        Some(WriteRule::WhileEnabled) => write!(
-            out,
-            "ignored: {name} can't be written while the translator is enabled; kept 0x{:x}",
-            access.part(fact.after)
-        ),
+        Some(WriteRule::Taken) => push_taken(out, access, fact),
+        Some(WriteRule::Same) => push_same(out, access.off, fact.after),
+        Some(WriteRule::WhileEnabled) => push_while_enabled(out, access, fact),
         Some(WriteRule::NoBases) => push_no_bases(out, machine, its),
         Some(WriteRule::PastQueue) => push_past_queue(out, machine, its, access, fact),
-        Some(WriteRule::ReadOnly) => write!(out, "ignored: {name} can only be read"),
+        Some(WriteRule::ReadOnly) => push_read_only(out, access.off),
         Some(WriteRule::NoRegister) => out.push_str("ignored: no register here"),
         None => out.push_str("ignored: there is no such translator"),
     }
 }
 
-/// Adds what a register has of the value that was written, if that isn't the same.
-fn push_kept(out: &mut String, access: Access, after: u64) -> Result<(), AllocError> {
-    let kept = access.part(after);
-    if kept == access.written() {
+#[tactic(auto, unfolding(crate::specs::RegisterWrites::taken_text))]
+fn push_taken(out: &mut String, access: Access, fact: &RegisterFact) -> Result<(), AllocError>
+    ensures { OnOk result
+        (string_bytes out.new ≡ string_bytes out.old ++ spec.taken_text access fact.now) }
+{
+    push_translator_value(out, access.off, fact.after)?;
+    push_kept_if(out, access, fact.after)?;
+    push_unmapped(out, fact.had, fact.has)
+}
+
+fn push_kept_if(out: &mut String, access: Access, after: u64) -> Result<(), AllocError>
+    ensures { OnOk result
+        (string_bytes out.new ≡ string_bytes out.old ++ spec.kept_if access after) }
+{
+    if access.off == 0 {
         Ok(())
     } else {
-        write!(out, "; written 0x{:x}, it reads 0x{kept:x}", access.value)
+        push_kept(out, access, after)
     }
 }
 
 /// Adds what a write of a base unmapped.
-fn push_unmapped(out: &mut String, fact: &RegisterFact) -> Result<(), AllocError> {
-    let Counts {
-        devices,
-        events,
-        collections,
-    } = fact.had;
-    if fact.had == fact.has {
-        return Ok(());
+fn push_unmapped(out: &mut String, had: Counts, has: Counts) -> Result<(), AllocError>
+    ensures { OnOk result
+        (string_bytes out.new ≡ string_bytes out.old ++ spec.unmapped_text had has) }
+{
+    if is_same(had, has) {
+        Ok(())
+    } else {
+        push_gone(out, had, has)
     }
-    out.push_str("; unmapped: ")?;
-    if devices > fact.has.devices {
-        push_count(out, devices, "device")?;
-        out.push_str(" with ")?;
-        return push_count(out, events, "event");
-    }
-    push_count(out, collections, "collection")
 }
 
-fn push_no_bases(out: &mut String, machine: &Replayed, its: u8) -> Result<(), AllocError> {
-    out.push_str("ignored: the translator can be enabled with valid bases alone; bit 63 is 0 in")?;
-    let mut between = " ";
-    for (off, name) in [
-        (0x80, "GITS_CBASER"),
-        (0x100, "GITS_BASER0"),
-        (0x108, "GITS_BASER1"),
-    ] {
-        if field(machine.register(its, off), 63, 1) == 0 {
-            write!(out, "{between}{name}")?;
-            between = ", ";
-        }
+fn is_same(had: Counts, has: Counts) -> bool
+    ensures { result ≡ spec.is_same had has }
+{
+    had.devices == has.devices && had.events == has.events && had.collections == has.collections
+}
+
+#[tactic(auto, unfolding(crate::specs::RegisterWrites::gone_text))]
+fn push_gone(out: &mut String, had: Counts, has: Counts) -> Result<(), AllocError>
+    ensures { OnOk result
+        (string_bytes out.new ≡ string_bytes out.old ++ spec.gone_text had has) }
+{
+    out.push_str("; unmapped: ")?;
+    push_lost(out, had, has)
+}
+
+fn push_lost(out: &mut String, had: Counts, has: Counts) -> Result<(), AllocError>
+    ensures { OnOk result
+        (string_bytes out.new ≡ string_bytes out.old ++ spec.lost_text had has) }
+{
+    if has.devices < had.devices {
+        push_devices(out, had)
+    } else {
+        push_count(out, had.collections, "collection")
     }
+}
+
+#[tactic(auto, unfolding(crate::specs::RegisterWrites::devices_text))]
+fn push_devices(out: &mut String, had: Counts) -> Result<(), AllocError>
+    ensures { OnOk result
+        (string_bytes out.new ≡ string_bytes out.old ++ spec.devices_text had) }
+{
+    push_count(out, had.devices, "device")?;
+    out.push_str(" with ")?;
+    push_count(out, had.events, "event")
+}
+
+#[tactic(auto, unfolding(crate::specs::RegisterWrites::same_text))]
+fn push_same(out: &mut String, off: u32, value: u64) -> Result<(), AllocError>
+    ensures { OnOk result
+        (string_bytes out.new ≡ string_bytes out.old ++ spec.same_text off value) }
+{
+    push_translator_value(out, off, value)?;
+    out.push_str(", as before")
+}
+
+#[tactic(auto, unfolding(crate::specs::RegisterWrites::while_enabled_text))]
+fn push_while_enabled(
+    out: &mut String,
+    access: Access,
+    fact: &RegisterFact,
+) -> Result<(), AllocError>
+    ensures { OnOk result
+        (string_bytes out.new ≡ string_bytes out.old ++ spec.while_enabled_text access fact.now) }
+{
+    push_ignored(out, translator_register(access.off))?;
+    let words = " can't be written while the translator is enabled; kept ";
+    push_in_hexadecimal(out, words, access.part(fact.after))
+}
+
+#[tactic(auto, unfolding(crate::specs::RegisterWrites::read_only_text))]
+fn push_read_only(out: &mut String, off: u32) -> Result<(), AllocError>
+    ensures { OnOk result
+        (string_bytes out.new ≡ string_bytes out.old ++ spec.read_only_text off) }
+{
+    push_ignored(out, translator_register(off))?;
+    out.push_str(" can only be read")
+}
+
+#[tactic(auto, unfolding(crate::specs::RegisterWrites::no_bases_text))]
+fn push_no_bases(out: &mut String, machine: &Replayed, its: u8) -> Result<(), AllocError>
+    ensures { OnOk result
+        (string_bytes out.new ≡ string_bytes out.old ++ spec.no_bases_text machine.now its) }
+{
+    out.push_str("ignored: the translator can be enabled with valid bases alone; bit 63 is 0 in")?;
+    push_not_valid_of(out, machine, its)?;
     out.push_str(" (section 12.19)")
 }
 
+/// Adds the bases that aren't valid.
+fn push_not_valid_of(out: &mut String, machine: &Replayed, its: u8) -> Result<(), AllocError>
+    ensures { OnOk result (string_bytes out.new
+        ≡ string_bytes out.old ++ spec.not_valid_of machine.now its) }
+{
+    let queue = machine.register(its, 0x80);
+    push_not_valid(
+        out,
+        queue,
+        machine.register(its, 0x100),
+        machine.register(its, 0x108),
+    )
+}
+
+#[tactic(auto, unfolding(crate::specs::RegisterWrites::not_valid_text))]
+fn push_not_valid(
+    out: &mut String,
+    queue: u64,
+    devices: u64,
+    collections: u64,
+) -> Result<(), AllocError>
+    ensures { OnOk result (string_bytes out.new
+        ≡ string_bytes out.old ++ spec.not_valid_text queue devices collections) }
+{
+    push_if_not_valid(out, true, "GITS_CBASER", queue)?;
+    push_if_not_valid(out, bit_of(queue, 63), "GITS_BASER0", devices)?;
+    push_if_not_valid(out, are_valid(queue, devices), "GITS_BASER1", collections)
+}
+
+fn are_valid(queue: u64, devices: u64) -> bool
+    ensures { result ≡ spec.are_valid queue devices }
+{
+    bit_of(queue, 63) && bit_of(devices, 63)
+}
+
+/// Adds a base that isn't valid, as the first or not.
+fn push_if_not_valid(out: &mut String, first: bool, name: &str, base: u64) -> Result<(), AllocError>
+    ensures { OnOk result
+        (string_bytes out.new ≡ string_bytes out.old ++ spec.if_not_valid first name.now base) }
+{
+    if bit_of(base, 63) {
+        Ok(())
+    } else {
+        push_separated(out, first, name)
+    }
+}
+
+#[tactic(auto, unfolding(crate::specs::RegisterWrites::separated))]
+fn push_separated(out: &mut String, first: bool, name: &str) -> Result<(), AllocError>
+    ensures { OnOk result
+        (string_bytes out.new ≡ string_bytes out.old ++ spec.separated first name.now) }
+{
+    push_separator(out, first)?;
+    out.push_str(name)
+}
+
+fn push_separator(out: &mut String, first: bool) -> Result<(), AllocError>
+    ensures { OnOk result (string_bytes out.new ≡ string_bytes out.old ++ spec.separator first) }
+{
+    out.push_str(if first { " " } else { ", " })
+}
+
+#[tactic(auto, unfolding(crate::specs::RegisterWrites::past_queue_text))]
 fn push_past_queue(
     out: &mut String,
     machine: &Replayed,
     its: u8,
     access: Access,
     fact: &RegisterFact,
-) -> Result<(), AllocError> {
-    let cbaser = machine.register(its, 0x80);
-    let size = field(cbaser, 0, 8).saturating_add(1).saturating_mul(4096);
-    write!(
-        out,
-        "ignored: CWRITER 0x{:x} is past the queue of 0x{size:x}: kept 0x{:x}",
-        access.value, fact.after
-    )
+) -> Result<(), AllocError>
+    ensures { OnOk result (string_bytes out.new
+        ≡ string_bytes out.old ++ spec.past_queue_text machine.now its access fact.now) }
+{
+    push_in_hexadecimal(out, "ignored: CWRITER ", access.value)?;
+    push_in_hexadecimal(out, " is past the queue of ", queue_size(machine, its))?;
+    push_in_hexadecimal(out, ": kept ", fact.after)
 }
 
-/// Adds what a write of an LPI register came to.
-pub fn push_lpi_write(
-    out: &mut String,
-    machine: &Replayed,
-    access: Access,
-    fact: &LpiRegisterFact,
-) -> Result<(), AllocError> {
-    let (Some(before), Some(after)) = (fact.before, fact.after) else {
-        return out.push_str("ignored: there is no such processor");
-    };
-    let name = lpi_register(access.off).unwrap_or("this register");
-    match lpi_rule(&before, access.off, access.size, access.value) {
-        LpiRule::NoRegister => out.push_str("ignored: no LPI register here that can be written"),
-        LpiRule::WhileOn => write!(
-            out,
-            "ignored: {name} can't be written while LPIs are on; it reads 0x{:x}",
-            access.part(fact.value)
-        ),
-        LpiRule::Same => {
-            push_lpi_value(out, access.off, fact.value)?;
-            out.push_str(", as before")
-        }
-        LpiRule::TurnsOn => push_turned_on(out, &after, fact),
-        LpiRule::TurnsOff => push_turned_off(out, &after, fact),
-        LpiRule::SetsBase => {
-            push_lpi_value(out, access.off, fact.value)?;
-            push_kept(out, access, fact.value)
-        }
-        LpiRule::Rereads => push_reread(out, machine, access, &before),
-    }
-}
-
-fn push_turned_on(
-    out: &mut String,
-    after: &Bases,
-    fact: &LpiRegisterFact,
-) -> Result<(), AllocError> {
-    if after.on {
-        out.push_str("GICR_CTLR: LPIs are on, with ")?;
-        push_count(out, fact.has as u64, "pending LPI")
-    } else {
-        write!(
-            out,
-            "ignored: LPIs stay off, since their tables at 0x{:x} and 0x{:x} don't both lie in {}",
-            after.prop.table.0, after.pend.table.0, "one window each (section 12.11)"
-        )
-    }
-}
-
-fn push_turned_off(
-    out: &mut String,
-    after: &Bases,
-    fact: &LpiRegisterFact,
-) -> Result<(), AllocError> {
-    if after.on {
-        return out.push_str("ignored: LPIs stay on; they can be turned off with `linux` alone");
-    }
-    out.push_str("GICR_CTLR: LPIs are off")?;
-    if fact.had > 0 {
-        out.push_str(", without ")?;
-        push_count(out, fact.had as u64, "LPI")?;
-        out.push_str(if fact.had == 1 {
-            " that was pending"
-        } else {
-            " that were pending"
-        })?;
-    }
-    Ok(())
-}
-
-fn push_reread(
-    out: &mut String,
-    machine: &Replayed,
-    access: Access,
-    before: &Bases,
-) -> Result<(), AllocError> {
-    if !before.on {
-        return out.push_str("ignored: LPIs are off, so no configuration is read");
-    }
-    if access.off != 0xa0 {
-        return out.push_str("the configurations of all LPIs are read again");
-    }
-    let intid = Intid(low_half(access.value));
-    let bits = machine.shape().lpi_bits;
-    if intid.in_range(bits) {
-        write!(out, "the configuration of LPI {intid} is read again")
-    } else {
-        write!(out, "ignored: {intid} is no LPI's number (section 2.2)")
-    }
+fn queue_size(machine: &Replayed, its: u8) -> u64
+    ensures { result ≡ spec.queue_at machine.now its }
+{
+    queue_bytes(machine.register(its, 0x80))
 }

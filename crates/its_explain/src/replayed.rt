@@ -1,8 +1,11 @@
 //! The machine on which the calls of a report are made again, and what is looked up in it.
+ghost use Rattle.std.specs.Prelude.{◌≡◌};
+ghost use Rattle.its_explain.specs.Looks.{value_in as read_value, whole_register};
 ghost use Rattle.its_plain.specs.Machine.{IsDescription};
 
 use crate::views::{bases_seen, idle_seen, lpi_seen, pair_seen, rule_seen, waiting_seen};
 use call_facts::{IdleCause, LpiState, PairState, Waiting, WriteRule};
+use gits_regs::Regs;
 use guest_windows::Memory;
 use its_plain::{Call, Desc, MakeError, Reply, SaveError};
 use its_types::{Bases, DeviceId, EventId, Intid, Shape, Target, Vcpu};
@@ -29,14 +32,15 @@ impl Model for Replayed {
 }
 
 impl Replayed {
-    ghost use Rattle.std.specs.Prelude.{◌≡◌, IfOk, OnErr, slice_get};
+    ghost use Rattle.std.specs.Prelude.{◌≡◌, IfOk, OnOk, OnErr, slice_get};
     ghost use Rattle.std.specs.Option.{option_map};
     ghost use Rattle.call_facts.specs.Idle.{idle_cause};
     ghost use Rattle.call_facts.specs.Pairs.{pair_state};
-    ghost use Rattle.its_explain.specs.Looks.{lpi_of};
+    ghost use Rattle.its_explain.specs.Looks as looks;
     ghost use Rattle.its_explain.specs.Views as spec;
     ghost use Rattle.its_plain.specs.Answer as plain;
     ghost use Rattle.its_plain.specs.Plain.{maps_of, regs_of};
+    ghost use Rattle.its_plain.specs.Saved.{moved};
     ghost use Rattle.owned_parts.specs.Owned.{translator_at};
 
     /// A machine in its first state.
@@ -65,26 +69,38 @@ impl Replayed {
         }
     }
 
-    /// How many LPIs are pending at a virtual processor.
-    pub fn count_pending(&self, vcpu: usize) -> Result<usize, AllocError> {
-        match self.pending(vcpu)? {
-            Some(lpis) => Ok(lpis.len()),
-            None => Ok(0),
+    /// How many LPIs are pending at a virtual processor; none where there isn't one of this number.
+    pub fn count_pending(&self, vcpu: usize) -> Result<usize, AllocError>
+        ensures { IfOk result (λ n. n ≡ looks.pending_count self.now vcpu) }
+    {
+        if vcpu < self.machine.vcpus() {
+            let lpis = self.machine.pending(self.alloc, vcpu)?;
+            Ok(lpis.len())
+        } else {
+            Ok(0)
         }
     }
 
     /// Goes on from what was saved.
-    pub fn migrate(&mut self) -> Result<(), SaveError> {
+    pub fn migrate(&mut self) -> Result<(), SaveError>
+        ensures ok { OnOk result (self.new ≡ moved self.old) }
+        ensures err { OnErr result (self.new ≡ self.old) }
+    {
         self.machine.migrate(self.alloc)
     }
 
     /// The same in the second memory; how many pages were copied at last.
-    pub fn precopy(&mut self) -> Result<u64, SaveError> {
+    pub fn precopy(&mut self) -> Result<u64, SaveError>
+        ensures ok { OnOk result (self.new ≡ moved self.old) }
+        ensures err { OnErr result (self.new ≡ self.old) }
+    {
         self.machine.precopy(self.alloc)
     }
 
     /// How large the machine is.
-    pub fn shape(&self) -> Shape {
+    pub fn shape(&self) -> Shape
+        ensures { result ≡ self.now.layout.shape }
+    {
         self.machine.parts().layout.shape
     }
 
@@ -111,7 +127,7 @@ impl Replayed {
 
     /// How an LPI stands where it goes, if it goes anywhere.
     pub fn lpi(&self, spot: Option<Target>) -> Option<LpiState>
-        ensures { result ≡ lpi_of self.now spot }
+        ensures { result ≡ looks.lpi_of self.now spot }
     {
         let Target { vcpu, intid } = spot?;
         lpi_seen(self.machine.parts(), vcpu, intid)
@@ -146,30 +162,54 @@ impl Replayed {
     }
 
     /// What the 64-bit register of a translator reads that has an offset, or the 32-bit one.
-    pub fn register(&self, its: u8, off: u32) -> u64 {
+    pub fn register(&self, its: u8, off: u32) -> u64
+        ensures { result ≡ looks.register_at self.now its off }
+    {
         match self.translator(its) {
-            Some(translator) => read_whole(translator, off),
+            Some(translator) => read_whole(translator.regs, off),
             None => 0,
         }
     }
 
     /// The same of the LPI registers of a virtual processor.
+    #[tactic(auto, unfolding(crate::specs::Looks::lpi_register_at))]
     pub fn lpi_register(&mut self, vcpu: Vcpu, off: u32) -> Result<u64, AllocError>
-        ensures { self.new ≡ self.old }
+        ensures kept { self.new ≡ self.old }
+        ensures value { IfOk result (λ v. v ≡ looks.lpi_register_at self.old vcpu.0 off) }
     {
-        let (off, size) = if off < 4 { (0, 4) } else { (off & !7, 8) };
-        let read = Call::ReadGicr { vcpu, off, size };
-        match self.machine.answer(self.alloc, &read)? {
-            Reply::Value(value) => Ok(value),
-            _ => Ok(0),
+        if off < 4 {
+            self.lpi_value(vcpu, 0, 4)
+        } else {
+            self.lpi_value(vcpu, off - off % 8, 8)
         }
+    }
+
+    fn lpi_value(&mut self, vcpu: Vcpu, off: u32, size: u8) -> Result<u64, AllocError>
+        ensures kept { self.new ≡ self.old }
+        ensures value { IfOk result (λ v. v ≡ plain.gicr_read self.old vcpu.0 off size) }
+    {
+        let read = Call::ReadGicr { vcpu, off, size };
+        let reply = self.machine.answer(self.alloc, &read)?;
+        Ok(value_in(&reply))
     }
 }
 
-fn read_whole(translator: TranslatorRef<'_>, off: u32) -> u64 {
-    let regs = translator.regs;
+/// What a register read.
+fn value_in(reply: &Reply) -> u64
+    ensures { result ≡ read_value reply.now }
+{
+    match *reply {
+        Reply::Value(value) => value,
+        _ => 0,
+    }
+}
+
+#[tactic(auto, unfolding(crate::specs::Looks::whole_register))]
+fn read_whole(regs: &Regs, off: u32) -> u64
+    ensures { result ≡ whole_register regs.now off }
+{
     match off {
         0x0 | 0x4 | 0xffe8 => regs.read(off, 4),
-        _ => regs.read(off & !7, 8),
+        _ => regs.read(off - off % 8, 8),
     }
 }

@@ -21,7 +21,7 @@ pub struct Sources<'a> {
     /// What came of the call.
     pub fact: Fact,
     /// The command that it took, if it is a step.
-    pub taken: Option<&'a Taken>,
+    pub taken: Option<Taken>,
 }
 
 impl<'a> Sources<'a> {

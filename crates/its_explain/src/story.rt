@@ -1,37 +1,34 @@
 //! A run that is told: each line of its report, and what came of each call.
-ghost use Rattle.std.specs.Prelude.{ℕ, ◌≡◌, if◌then◌else◌, Some, OnOk};
+ghost use Rattle.std.specs.Prelude.{ℕ, ◌≡◌, [], if◌then◌else◌, Some, IfOk, OnOk, OnErr};
 ghost use Rattle.std.specs.Option.{option_map};
+ghost use Rattle.std.specs.String.{string_bytes};
 ghost use Rattle.call_facts.specs.declared.answers.Key as asked;
 ghost use Rattle.its_explain.specs.Book.{changer, writer, is_among, line_by, writes};
+ghost use Rattle.its_explain.specs.Chosen.{Adds, said_of_line, told_text};
+ghost use Rattle.its_explain.specs.Since.{Tells};
 ghost use Rattle.its_explain.specs.Steps.{after, changes, changing_line, taken_for};
 ghost use Rattle.its_explain.specs.Watched.{changed_at};
 ghost use Rattle.its_plain.specs.Answer.{reply_of};
+ghost use Rattle.its_plain.specs.Saved.{moved};
 
 use crate::book::Book;
 use crate::call_lines::CallLine;
+use crate::came::{Came, Told, tell_made};
+use crate::difference::{push_difference, push_right, says};
 use crate::entries::{Entry, entry_of};
 use crate::facts::{Fact, Taken};
 use crate::left::{Left, Missing, Next, count_calls, cut};
 use crate::lines::{first_words, number};
 use crate::replayed::Replayed;
-use crate::replies::push_reply;
-use crate::show::{push_bytes, push_folded, push_heading, push_plain};
+use crate::said::push_said;
+use crate::show::push_heading;
 use crate::sources::Sources;
 use crate::watch::Watch;
 use event_script::{Leg, Move, Script};
-use its_history::{answered_text, pending_text, save_fault_text, vcpu_text};
+use its_history::{pending_text, save_fault_text, vcpu_text};
 use its_plain::{Call, Reply, SaveError};
 use std::alloc::{AllocError, Global};
 use std::fmt::Write;
-
-/// How the telling of a report's line came out.
-#[derive(Clone, Copy, PartialEq, Eq)]
-pub enum Told {
-    /// The line is that of a run.
-    Right,
-    /// It isn't, and why was said.
-    Wrong,
-}
 
 /// A run, up to a line of its report.
 #[derive(Drop)]
@@ -48,15 +45,6 @@ pub struct Story<'a> {
     left: Left<'a>,
     /// How many calls of the leg were made.
     places: u64,
-}
-
-/// What a call that was made came to.
-#[derive(Clone, Copy)]
-struct Made {
-    /// What it was answered.
-    reply: Reply,
-    /// What came of it.
-    fact: Fact,
 }
 
 impl<'a> Story<'a> {
@@ -82,7 +70,10 @@ impl<'a> Story<'a> {
     }
 
     /// Tells a line of the report.
-    pub fn tell(&mut self, out: &mut String, line: &[u8]) -> Result<Told, AllocError> {
+    pub fn tell(&mut self, out: &mut String, line: &[u8]) -> Result<Told, AllocError>
+        ensures { OnOk result
+            (Tells self.old.book self.old.machine self.new.book self.new.machine) }
+    {
         if let Some(entry) = entry_of(line) {
             return self.tell_entry(out, line, &entry);
         }
@@ -101,7 +92,10 @@ impl<'a> Story<'a> {
         Ok(Told::Right)
     }
 
-    fn begin_leg(&mut self) -> Result<(), AllocError> {
+    fn begin_leg(&mut self) -> Result<(), AllocError>
+        ensures book { OnOk result (self.new.book ≡ self.old.book) }
+        ensures machine { OnOk result (self.new.machine ≡ self.old.machine) }
+    {
         let legs: &'a [Leg] = self.script.legs.as_slice();
         if let Some(leg) = legs.get(self.legs) {
             self.left = Left::new(self.alloc, leg, self.lines)?;
@@ -118,7 +112,10 @@ impl<'a> Story<'a> {
         out: &mut String,
         line: &[u8],
         entry: &Entry,
-    ) -> Result<Told, AllocError> {
+    ) -> Result<Told, AllocError>
+        ensures { OnOk result
+            (Tells self.old.book self.old.machine self.new.book self.new.machine) }
+    {
         let Some(next) = self.left.take(entry.phase, entry.thread) else {
             push_difference(out, line)?;
             self.push_missing(out, entry)?;
@@ -127,7 +124,7 @@ impl<'a> Story<'a> {
         self.tell_call(out, line, entry, &next)
     }
 
-    /// Makes a call, tells what came of it, and keeps what it changed.
+    /// Makes a call, and tells what came of it.
     fn tell_call(
         &mut self,
         out: &mut String,
@@ -146,16 +143,60 @@ impl<'a> Story<'a> {
             then Some next.now.line.number
             else writer self.old.book a)) }
     {
+        let came = self.make(next)?;
+        let place = self.places;
+        let told = tell_made(self.alloc, out, line, entry, place, &next.call, &came)?;
+        self.places = place.saturating_add(1);
+        Ok(told)
+    }
+
+    /// Makes a call, says what came of it, and keeps what it changed.
+    fn make(&mut self, next: &Next) -> Result<Came, AllocError>
+        ensures machine { OnOk result (self.new.machine ≡ after self.old.machine next.now.call) }
+        ensures changers { OnOk result ((i : ℕ) (k : asked.Key) → changer self.new.book i k
+            ≡ (if changes self.old.machine next.now.call i k
+            then Some (changing_line self.old.book self.old.machine next.now.call
+            next.now.line.number)
+            else changer self.old.book i k)) }
+        ensures writers { OnOk result ((a : ℕ) → writer self.new.book a
+            ≡ (if writes next.now.call (reply_of self.old.machine next.now.call) a
+            then Some next.now.line.number
+            else writer self.old.book a)) }
+        ensures reply { IfOk result
+            (λ came. came.reply ≡ reply_of self.old.machine next.now.call) }
+        ensures said { IfOk result (λ came. Adds (told_text self.old.book self.old.machine
+            next.now.call next.now.line.number) [] (string_bytes came.said)) }
+    {
         let taken = self.command_for(&next.call);
-        let taken = taken.as_ref();
-        let watch = Watch::before(self.alloc, &self.machine, &next.call, taken)?;
-        let look = self.machine.look(&next.call, taken)?;
+        let watch = Watch::before(self.alloc, &self.machine, &next.call, taken.as_ref())?;
+        let look = self.machine.look(&next.call, taken.as_ref())?;
         let reply = self.machine.answer(&next.call)?;
         let fact = self.machine.fact(&look)?;
-        let made = Made { reply, fact };
-        let told = self.tell_made(out, line, entry, next, taken, &made)?;
-        self.remember(next, taken, &made, &watch)?;
-        Ok(told)
+        let said = self.said_of(next, fact, taken, &reply)?;
+        self.remember(next, taken.as_ref(), &reply, &watch)?;
+        Ok(Came { reply, said })
+    }
+
+    /// What is said of a call that was made.
+    fn said_of(
+        &self,
+        next: &Next,
+        fact: Fact,
+        taken: Option<Taken>,
+        reply: &Reply,
+    ) -> Result<String, AllocError>
+        ensures { IfOk result (λ said. Adds (said_of_line self.now.book self.now.machine fact
+            taken next.now.call next.now.line.number reply.now) [] (string_bytes said)) }
+    {
+        let sources = Sources {
+            book: &self.book,
+            machine: &self.machine,
+            fact,
+            taken,
+        };
+        let mut said = String::new(self.alloc);
+        push_said(&mut said, self.input, &sources, next, reply)?;
+        Ok(said)
     }
 
     /// Adds why no call is left of which an entry could tell.
@@ -181,66 +222,12 @@ impl<'a> Story<'a> {
         }
     }
 
-    /// Tells what came of a call, or what the line would have to say.
-    fn tell_made(
-        &self,
-        out: &mut String,
-        line: &[u8],
-        entry: &Entry,
-        next: &Next,
-        taken: Option<&Taken>,
-        made: &Made,
-    ) -> Result<Told, AllocError> {
-        let text = answered_text(self.alloc, &next.call, &made.reply)?;
-        if says(text.as_str(), entry.text) {
-            push_heading(out, line)?;
-            self.push_came(out, next, taken, made)?;
-            return Ok(Told::Right);
-        }
-        push_difference(out, line)?;
-        let place = self.places;
-        let (phase, thread) = (entry.phase, entry.thread);
-        let right = format!(in self.alloc; "{place} {phase}.{thread} {}", text.as_str())?;
-        push_right(out, line, right.as_str().as_bytes())?;
-        self.push_came(out, next, taken, made)?;
-        Ok(Told::Wrong)
-    }
-
-    /// Adds what came of a call.
-    fn push_came(
-        &self,
-        out: &mut String,
-        next: &Next,
-        taken: Option<&Taken>,
-        made: &Made,
-    ) -> Result<(), AllocError> {
-        let mut said = String::new(self.alloc);
-        let number = next.line.number;
-        write!(&mut said, "line {number}: ")?;
-        let text = next.line.text(self.input);
-        if made.reply == Reply::Ok && is_written_as(text) {
-            said.push_str("`")?;
-            push_trimmed(&mut said, text)?;
-            said.push_str("`")?;
-        } else {
-            let sources = Sources {
-                book: &self.book,
-                machine: &self.machine,
-                fact: made.fact,
-                taken,
-            };
-            push_reply(&mut said, &sources, &next.call, &made.reply)?;
-        }
-        out.push_str("        ")?;
-        push_folded(out, said.as_str().as_bytes(), 8, 8)
-    }
-
     /// Keeps what a call's line wrote, and what it changed.
     fn remember(
         &mut self,
         next: &Next,
         taken: Option<&Taken>,
-        made: &Made,
+        reply: &Reply,
         watch: &Watch,
     ) -> Result<(), AllocError>
         ensures machine { OnOk result (self.new.machine ≡ self.old.machine) }
@@ -250,10 +237,9 @@ impl<'a> Story<'a> {
             next.now.line.number)
             else changer self.old.book i k)) }
         ensures writers { OnOk result ((a : ℕ) → writer self.new.book a
-            ≡ (if writes next.now.call made.now.reply a then Some next.now.line.number
+            ≡ (if writes next.now.call reply.now a then Some next.now.line.number
             else writer self.old.book a)) }
     {
-        self.places = self.places.saturating_add(1);
         let line = next.line.number;
         let keys = watch.changes(self.alloc, &self.machine)?;
         let command = match taken {
@@ -261,7 +247,7 @@ impl<'a> Story<'a> {
             None => None,
         };
         self.book.changed_by(watch.its, &keys, command, line)?;
-        self.book.wrote_by(&next.call, &made.reply, line)
+        self.book.wrote_by(&next.call, reply, line)
     }
 
     /// The command that a call will take, if it is a step that takes one.
@@ -274,7 +260,7 @@ impl<'a> Story<'a> {
         }
     }
 
-    fn tell_pending(&mut self, out: &mut String, line: &[u8]) -> Result<Told, AllocError> {
+    fn tell_pending(&self, out: &mut String, line: &[u8]) -> Result<Told, AllocError> {
         if let Some(number) = self.left.first_line() {
             push_difference(out, line)?;
             writeln!(out, "and calls of the leg are left, from line {number} on.")?;
@@ -295,7 +281,10 @@ impl<'a> Story<'a> {
         Ok(Told::Right)
     }
 
-    fn tell_move(&mut self, out: &mut String, line: &[u8]) -> Result<Told, AllocError> {
+    fn tell_move(&mut self, out: &mut String, line: &[u8]) -> Result<Told, AllocError>
+        ensures { OnOk result
+            (Tells self.old.book self.old.machine self.new.book self.new.machine) }
+    {
         match self.move_on() {
             Ok(pages) => self.tell_pages(out, line, pages),
             Err(SaveError::NoMemory) => Err(AllocError),
@@ -310,7 +299,11 @@ impl<'a> Story<'a> {
 
     /// Migrates the machine as the script says; how many pages were copied before it, if any were
     /// to be.
-    fn move_on(&mut self) -> Result<Option<u64>, SaveError> {
+    fn move_on(&mut self) -> Result<Option<u64>, SaveError>
+        ensures book { self.new.book ≡ self.old.book }
+        ensures ok { OnOk result (self.new.machine ≡ moved self.old.machine) }
+        ensures err { OnErr result (self.new.machine ≡ self.old.machine) }
+    {
         let moves: &[Move] = self.script.moves.as_slice();
         match moves.get(self.legs.saturating_sub(1)) {
             Some(Move::Precopy) => Ok(Some(self.machine.precopy()?)),
@@ -344,7 +337,10 @@ impl<'a> Story<'a> {
     }
 
     /// Adds why the run ended in the leg that was told last.
-    pub fn push_stop(&mut self, out: &mut String) -> Result<(), AllocError> {
+    pub fn push_stop(&mut self, out: &mut String) -> Result<(), AllocError>
+        ensures { OnOk result
+            (Tells self.old.book self.old.machine self.new.book self.new.machine) }
+    {
         if self.left.has_more() {
             let last = self.script.desc.limits.place_last;
             return writeln!(
@@ -363,50 +359,4 @@ impl<'a> Story<'a> {
             }
         }
     }
-}
-
-/// Whether a line has this text.
-fn says(text: &str, line: &[u8]) -> bool {
-    text.as_bytes() == line
-}
-
-/// Whether a report tells the words of the line as a poke.
-fn is_written_as(line: &[u8]) -> bool {
-    let (first, _) = first_words(line);
-    first == b"command".as_slice() || first == b"word".as_slice()
-}
-
-/// Adds the fields of a line, with one space between them.
-fn push_trimmed(out: &mut String, line: &[u8]) -> Result<(), AllocError> {
-    let mut is_first = true;
-    for field in line.split(|b| *b == b' ') {
-        if !field.is_empty() {
-            if !is_first {
-                out.push(' ')?;
-            }
-            push_bytes(out, field)?;
-            is_first = false;
-        }
-    }
-    Ok(())
-}
-
-fn push_difference(out: &mut String, line: &[u8]) -> Result<(), AllocError> {
-    out.push_str("The report says\n")?;
-    push_plain(out, line)
-}
-
-/// Adds a run's line, and that a line has but spaces more than it.
-fn push_right(out: &mut String, line: &[u8], right: &[u8]) -> Result<(), AllocError> {
-    out.push_str("and a run's line is\n")?;
-    push_plain(out, right)?;
-    if has_spaces_more(line, right) {
-        out.push_str("without the spaces at its end.\n")?;
-    }
-    Ok(())
-}
-
-fn has_spaces_more(line: &[u8], right: &[u8]) -> bool {
-    let more = line.get(right.len()..).unwrap_or(&[]);
-    line.starts_with(right) && !more.is_empty() && more.iter().all(|b| *b == b' ')
 }

@@ -6,4 +6,10 @@ use Rattle.its_explain.proofs.acks.push_not_enabled.Goals as goal
 pub returns : goal.returns
 unfolding not_enabled_text
 returns c =
-    onto c.push_str-2.result _ (string_bytes c.push_str.new.self) (string_bytes c.args.out.now) _ _ (joined (string_bytes c.push_str.new.self) (string_bytes c.push_small.new.out) (string_bytes c.args.out.now) _ _ (joined (string_bytes c.push_small.new.out) (string_bytes c.push_wide.new.out) (string_bytes c.args.out.now) _ _ c.in_ok-push_wide.ensures c.in_ok-push_small.ensures) c.in_ok-push_str.ensures.bytes) (pushed c.push_str-2.result _ (string_bytes c.push_str.new.self) _ c.push_str-2.ensures.bytes)
+    onto c.push_str-2.result _ (string_bytes c.push_str.new.self) (string_bytes c.args.out.now) _ _
+    (joined (string_bytes c.push_str.new.self) (string_bytes c.push_small.new.out) (string_bytes c.args.out.now) _ _
+    (joined (string_bytes c.push_small.new.out) (string_bytes c.push_wide.new.out) (string_bytes c.args.out.now) _ _
+    c.in_ok-push_wide.ensures
+    c.in_ok-push_small.ensures)
+    c.in_ok-push_str.ensures.bytes)
+    (pushed c.push_str-2.result _ (string_bytes c.push_str.new.self) _ c.push_str-2.ensures.bytes)

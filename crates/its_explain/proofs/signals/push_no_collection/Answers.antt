@@ -6,4 +6,6 @@ use Rattle.its_explain.proofs.signals.push_no_collection.Goals as goal
 pub returns : goal.returns
 unfolding no_collection_text
 returns c =
-    onto c.push_str.result _ (string_bytes c.push_collection.new.out) (string_bytes c.args.out.now) _ _ c.in_ok-push_collection.ensures (pushed c.push_str.result _ (string_bytes c.push_collection.new.out) _ c.push_str.ensures.bytes)
+    onto c.push_str.result _ (string_bytes c.push_collection.new.out) (string_bytes c.args.out.now) _ _
+    c.in_ok-push_collection.ensures
+    (pushed c.push_str.result _ (string_bytes c.push_collection.new.out) _ c.push_str.ensures.bytes)

@@ -6,4 +6,8 @@ use Rattle.its_explain.proofs.signals.push_unmapped.Goals as goal
 pub returns : goal.returns
 unfolding unmapped_text
 returns c =
-    onto c.push_since.result _ (string_bytes c.push_str.new.self) (string_bytes c.args.out.now) _ _ (joined (string_bytes c.push_str.new.self) (string_bytes c.push_small.new.out) (string_bytes c.args.out.now) _ _ c.in_ok-push_small.ensures c.in_ok-push_str.ensures.bytes) c.push_since.ensures
+    onto c.push_since.result _ (string_bytes c.push_str.new.self) (string_bytes c.args.out.now) _ _
+    (joined (string_bytes c.push_str.new.self) (string_bytes c.push_small.new.out) (string_bytes c.args.out.now) _ _
+    c.in_ok-push_small.ensures
+    c.in_ok-push_str.ensures.bytes)
+    c.push_since.ensures

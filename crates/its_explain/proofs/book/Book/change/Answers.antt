@@ -1,4 +1,4 @@
-use Rattle.std.proofs.Common.{◌≡◌, ℕ, Bool, ◌∙◌, ap, refl, if◌then◌else◌, Some}
+use Rattle.std.proofs.Common.{Bool, ◌∙◌, ap, refl, if◌then◌else◌, Some}
 use Rattle.its_explain.specs.Book.{changer, writer}
 use Rattle.its_explain.proofs.Keys.{asked_tied}
 use Rattle.its_explain.proofs.book.Book.change.Goals as goal

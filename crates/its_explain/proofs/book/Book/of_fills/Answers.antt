@@ -1,4 +1,4 @@
-use Rattle.std.proofs.Common.{rules, ℕ, ◌≡◌, ◌∙◌, sym, ⊎_elim}
+use Rattle.std.proofs.Common.{rules, ◌∙◌, sym, ⊎_elim}
 use Rattle.its_explain.specs.Book.{changer, writer}
 use Rattle.its_explain.proofs.Steps.{no_fills, no_lines}
 use Rattle.its_explain.proofs.book.Book.of_fills.Goals as goal

@@ -1,4 +1,4 @@
-use Rattle.std.proofs.Common.{ℕ, ◌≡◌, ◌+◌, ◌≤◌, ◌<◌, Bool, ◌∙◌, ap, arith, if◌then◌else◌, Some}
+use Rattle.std.proofs.Common.{Bool, ◌∙◌, ap, arith, if◌then◌else◌, Some}
 use Rattle.std.specs.Cmp.{unsigned_tied}
 use Rattle.its_explain.specs.Book.{changer, writer, slot_of}
 use Rattle.its_explain.proofs.Steps.{one_slot_more}

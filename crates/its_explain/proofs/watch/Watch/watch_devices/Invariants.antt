@@ -1,4 +1,4 @@
-use Rattle.std.proofs.Common.{◌≡◌, ◌++◌, map}
+use Rattle.std.proofs.Common.{◌≡◌, ◌++◌}
 use Rattle.std.specs.FinMap.{entries}
 use Rattle.its_explain.specs.Watched.{devices_answers}
 use Rattle.its_explain.proofs.watch.Watch.watch_devices.Given as goal

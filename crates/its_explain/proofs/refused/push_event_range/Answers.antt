@@ -1,0 +1,13 @@
+use Rattle.std.specs.String.{string_bytes}
+use Rattle.its_explain.specs.Refusals.{event_range_text}
+use Rattle.its_explain.proofs.Texts.{joined, onto, pushed}
+use Rattle.its_explain.proofs.refused.push_event_range.Goals as goal
+
+pub returns : goal.returns
+unfolding event_range_text
+returns c =
+    rw c.from.ensures at (onto c.push_str.result _ (string_bytes c.push_events_of.new.out) (string_bytes c.args.out.now) _ _
+    (joined (string_bytes c.push_events_of.new.out) (string_bytes c.push_enclosed.new.out) (string_bytes c.args.out.now) _ _
+    c.in_ok-push_enclosed.ensures
+    c.in_ok-push_events_of.ensures)
+    (pushed c.push_str.result _ (string_bytes c.push_events_of.new.out) _ c.push_str.ensures.bytes))
