@@ -20,7 +20,8 @@ use Rattle.its_plain.specs.Plain.{Plain, Translator, no_translator, translator, 
 use Rattle.its_plain.specs.declared.call.Reason.{Reason}
 use Rattle.its_plain.specs.declared.call.Reason.TheVariants.{TargetRange, LpisOff}
 use Rattle.its_plain.specs.declared.call.StepReply.TheVariants.{Idle}
-use Rattle.its_c.specs.Keeping.{Held, with_machine, no_limit}
+use Rattle.its_c.specs.Keeping.{Held, with_machine}
+use Rattle.its_numbers.specs.Limits.{no_limit}
 use Rattle.its_c.specs.Routes.{leaves_maps, step_leaves_maps, is_no_table, next_count, counted, KeepsRoutes}
 
 -- ---- the count

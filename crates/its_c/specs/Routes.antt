@@ -5,7 +5,8 @@ use Rattle.its_command.specs.declared.command.Op.TheVariants as op
 use Rattle.its_plain.specs.Plain.{Plain, maps_of}
 use Rattle.its_plain.specs.declared.call.StepReply.{StepReply}
 use Rattle.its_plain.specs.declared.call.StepReply.TheVariants.{Idle, Ran, Refused, QueueFault}
-use Rattle.its_c.specs.Keeping.{Held, no_limit}
+use Rattle.its_c.specs.Keeping.{Held}
+use Rattle.its_numbers.specs.Limits.{no_limit}
 
 -- a command of this name leaves the maps
 abbrev pub leaves_maps : Op → Bool

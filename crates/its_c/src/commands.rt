@@ -9,7 +9,7 @@ ghost use Rattle.its_types.specs.Bitmap.{word_bit};
 ghost use Rattle.its_types.specs.Ranges.{most_vcpus};
 ghost use Rattle.owned_parts.specs.RedistSets.{is_in};
 ghost use Rattle.its_numbers.specs.Codes as codes;
-ghost use Rattle.its_c.specs.Keeping.{is_full};
+ghost use Rattle.its_numbers.specs.Limits.{is_full};
 ghost use Rattle.its_c.specs.Routes.{went_on, step_leaves_maps, KeepsRoutes};
 ghost use Rattle.its_c.specs.Concerns.{UnconcernedStay, AreConcerned, IsStepCode, IsLentStepCode};
 ghost use Rattle.its_numbers.specs.Replies as replies;

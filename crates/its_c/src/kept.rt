@@ -1,13 +1,12 @@
 //! What a handle has: a machine, the description that it was made from, and how much may be mapped.
 ghost use Rattle.std.specs.Prelude.{◌≡◌};
 ghost use Rattle.owned_machine.specs.Lent.{on};
-ghost use Rattle.its_c.specs.Keeping as spec;
+ghost use Rattle.its_numbers.specs.Limits as spec;
 
-use crate::room::{has_room, is_within, missing};
 use crate::routes::next_count;
 use dma_routes::route;
 use guest_windows::{Memory, Outside};
-use its_numbers::GuestLimits;
+use its_numbers::{GuestLimits, has_room, is_at, is_past, is_within, missing};
 use its_plain::{Bytes64, Call, Desc, Reply, Route, SaveError, StepReply};
 use its_types::Addr;
 use owned_machine::Machine;
@@ -55,7 +54,8 @@ impl Kept {
     ghost use Rattle.std.specs.Prelude.{Ok, Err, is_ok, length, map, replicate};
     ghost use Rattle.dma_routes.specs.Routes.{AreDevices};
     ghost use Rattle.guest_windows.specs.Windows.{inside, extent};
-    ghost use Rattle.its_c.specs.Keeping.{with_machine, no_limit, is_full, is_over, maps_none};
+    ghost use Rattle.its_c.specs.Keeping.{with_machine, maps_none};
+    ghost use Rattle.its_numbers.specs.Limits.{no_limit, is_full, is_over};
     ghost use Rattle.its_c.specs.Routes.{counted};
     ghost use Rattle.its_c.specs.declared.kept.StepError.TheVariants.{Full, NoMemory};
     ghost use Rattle.its_plain.specs.Answer as plain;
@@ -123,7 +123,7 @@ impl Kept {
     }
 
     /// Whether more is mapped than may be.
-    #[tactic(auto, unfolding(crate::specs::Keeping::is_over))]
+    #[tactic(auto, unfolding(its_numbers::specs::Limits::is_over))]
     pub fn is_over(&self) -> bool
         ensures { result ≡ is_over self.now.limits self.now.machine }
     {
@@ -312,7 +312,7 @@ fn is_full(machine: &Machine, limits: &GuestLimits) -> bool
 }
 
 // So of a step on other memory. Only at a limit is the command looked at.
-#[tactic(auto, unfolding(crate::specs::Keeping::is_full))]
+#[tactic(auto, unfolding(its_numbers::specs::Limits::is_full))]
 fn is_full_on(machine: &Machine, memory: &Memory, limits: &GuestLimits) -> bool
     ensures { result ≡ spec.is_full limits.now (on memory.now machine.now) }
 {
@@ -320,16 +320,4 @@ fn is_full_on(machine: &Machine, memory: &Memory, limits: &GuestLimits) -> bool
     is_at(limits.events, event_count(parts, 0)) && adds_event_on(parts, memory, 0)
         || is_at(limits.devices, u64::from(device_count(parts, 0)))
             && adds_device_on(parts, memory, 0)
-}
-
-fn is_at(limit: u64, count: u64) -> bool
-    ensures { result ≡ spec.is_at limit count }
-{
-    limit != u64::MAX && count >= limit
-}
-
-fn is_past(limit: u64, count: u64) -> bool
-    ensures { result ≡ spec.is_past limit count }
-{
-    limit != u64::MAX && count > limit
 }

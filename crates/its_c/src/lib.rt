@@ -27,7 +27,6 @@ mod pending;
 mod pieces;
 mod ranges;
 mod registers;
-mod room;
 mod routes;
 mod saves;
 mod step_calls;

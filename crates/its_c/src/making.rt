@@ -6,8 +6,9 @@ ghost use Rattle.its_plain.specs.Machine.{IsDescription};
 ghost use Rattle.its_numbers.specs.Codes as codes;
 ghost use Rattle.its_numbers.specs.Descriptions.{is_in_range as in_range, description_of};
 ghost use Rattle.its_numbers.specs.Descriptions.{guest_limits_of};
-ghost use Rattle.its_c.specs.Keeping.{is_over, kept_of};
-ghost use Rattle.its_c.specs.Making.{IsMade, IsTooMuch, IsTooMuchIn};
+ghost use Rattle.its_c.specs.Keeping.{kept_of};
+ghost use Rattle.its_numbers.specs.Limits.{IsTooMuch, IsTooMuchIn, is_over};
+ghost use Rattle.its_c.specs.Making.{IsMade};
 ghost use Rattle.its_numbers.specs.Unmade.{IsUnmade};
 
 use crate::handle::Handle;

@@ -1,7 +1,7 @@
 //! Saves and migrations (KVM document arm-vgic-its).
 ghost use Rattle.std.specs.Prelude.{◌≡◌, ◌≢◌};
 ghost use Rattle.its_numbers.specs.Codes as codes;
-ghost use Rattle.its_c.specs.Keeping.{no_limit};
+ghost use Rattle.its_numbers.specs.Limits.{no_limit};
 ghost use Rattle.its_c.specs.Routes.{KeepsRoutes};
 ghost use Rattle.its_c.specs.Saves.{IsSaved, IsMoved, IsUnsaved};
 

@@ -4,7 +4,7 @@ ghost use Rattle.its_plain.specs.Answer.{step_reply, step_left};
 ghost use Rattle.owned_machine.specs.Whole.{step_adds};
 ghost use Rattle.its_numbers.specs.Codes as codes;
 ghost use Rattle.its_c.specs.Held.{InMachine, InHeld, beside};
-ghost use Rattle.its_c.specs.Keeping.{is_full, no_limit};
+ghost use Rattle.its_numbers.specs.Limits.{is_full, no_limit};
 ghost use Rattle.its_c.specs.Concerns.{UnconcernedStay, AreConcerned, IsStepCode, IsLentStepCode};
 ghost use Rattle.its_c.specs.LentBytes.{stretches_fit, lent, lent_left};
 ghost use Rattle.its_numbers.specs.Replies as replies;

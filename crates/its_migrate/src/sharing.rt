@@ -3,6 +3,7 @@ ghost use Rattle.std.specs.Prelude.{◌≡◌, ◌^◌, ◌<◌, ◌≤◌, IfOk
 ghost use Rattle.its_plain.specs.Described.{IsFirstState};
 ghost use Rattle.its_plain.specs.Machine.{IsDescription};
 ghost use Rattle.its_migrate.specs.Shared.{IsFirst, IsSharedFrom};
+ghost use Rattle.its_turns.specs.Machines.{setup};
 ghost use Rattle.its_turns.specs.Words.{IsLong};
 
 use its_plain::{Desc, MakeError};
@@ -43,7 +44,8 @@ pub fn share_owned(alloc: Global, desc: &Desc, owned: Owned) -> Result<(Machine,
     requires places { desc.now.limits.place_last < 2 ^ 56 }
     requires few_stamps { IsLong desc.now.limits → desc.now.limits.stamp_last < 2 ^ 8 }
     requires alone { IsLong desc.now.limits → length desc.now.translators ≡ 1 }
-    ensures { IfOk result (λ made. IsFirst desc.now made.0 made.1) }
+    ensures first { IfOk result (λ made. IsFirst desc.now made.0 made.1) }
+    ensures start { IfOk result (λ made. (setup made.0).start ≡ owned) }
 {
     let parts = owned.into_parts();
     let (machine, root) = Machine::new(alloc, desc, parts)?;

@@ -2,6 +2,7 @@ pub mod Codes
 pub mod Descriptions
 pub mod Events
 pub mod Faults
+pub mod Limits
 pub mod Lists
 pub mod Mapped
 pub mod Replies

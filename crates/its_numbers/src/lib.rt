@@ -12,12 +12,13 @@ mod loose;
 mod mapped;
 mod numbers;
 mod replies;
+mod room;
 
 pub use codes::{BUSY, DONE, FAULT, FULL, HANDLE, NO_MEMORY, OUTSIDE, RANGE, SPENT};
 pub use describing::{description, is_in_range};
 pub use events::{EventOut, event_out};
 pub use faults::{MakeFaultOut, NO_FAULT, SaveFaultOut, make_fault_out, save_fault_out};
-pub use limits::{GuestLimits, guest_limits};
+pub use limits::{GuestLimits, guest_limits, is_at, is_past};
 pub use lists::{StretchOut, put_lpis, put_tables};
 pub use loose::Loose;
 pub use mapped::{
@@ -25,3 +26,4 @@ pub use mapped::{
 };
 pub use numbers::{DescriptionIn, FillIn, RedistributorIn, RequestersIn, WindowIn};
 pub use replies::{AckOut, DmaOut, SignalOut, StepOut, ack_out, dma_out, signal_out, step_out};
+pub use room::{has_room, is_within, missing};

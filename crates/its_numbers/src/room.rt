@@ -1,6 +1,6 @@
 //! Whether more pages of guest memory may be held.
 ghost use Rattle.std.specs.Prelude.{◌≡◌, ◌≤◌, ◌<◌, true, false};
-ghost use Rattle.its_c.specs.Keeping.{no_limit};
+ghost use Rattle.its_numbers.specs.Limits.{no_limit};
 
 use guest_windows::Memory;
 use its_types::Addr;

@@ -19,8 +19,8 @@ new-requires-clause-apart c =
     first_stamps d c.into_parts-parts.result c.requires.description.some_translator c.requires.description.most_translators
     (sym (new-requires-clause-translators c)) c.requires.stamps_of_two
 
-pub returns : goal.returns
-returns c =
+pub returns-clause-first : goal.returns-clause-first
+returns-clause-first c =
     let d = c.args.desc.now in let e = c.in_ok-machine.ensures in
     record {
       start = subst (IsFirstState d) (sym (ap (λ (s : Setup). s.start) e.setup ∙ c.into_parts-parts.ensures.state)) c.requires.first;
@@ -30,3 +30,6 @@ returns c =
       of = e.of;
       view = e.view;
     }
+
+pub returns-clause-start : goal.returns-clause-start
+returns-clause-start c = ap (λ (s : Setup). s.start) c.in_ok-machine.ensures.setup ∙ c.into_parts-parts.ensures.state

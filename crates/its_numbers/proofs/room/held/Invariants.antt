@@ -1,5 +1,5 @@
 use Rattle.std.proofs.Common.{◌≤◌, ◌-◌}
-use Rattle.its_c.proofs.room.held.Given as goal
+use Rattle.its_numbers.proofs.room.held.Given as goal
 
 abbrev pub invariant-loop-pages : goal.invariant-loop-pages
 invariant-loop-pages l = l.pages ≤ l.most

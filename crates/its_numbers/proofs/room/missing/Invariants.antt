@@ -1,4 +1,4 @@
-use Rattle.its_c.proofs.room.missing.Given as goal
+use Rattle.its_numbers.proofs.room.missing.Given as goal
 
 abbrev pub invariant-loop-left : goal.invariant-loop-left
 invariant-loop-left l = Unit {0}
