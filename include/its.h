@@ -32,7 +32,7 @@ extern "C" {
 #endif
 
 /* Counts the changes of this file after which a caller is built anew. */
-#define ITS_VERSION 4
+#define ITS_VERSION 5
 
 /* What a call answers. */
 enum its_answer {
@@ -42,7 +42,7 @@ enum its_answer {
     ITS_RANGE = 3,     /* a number is out of its range */
     ITS_FAULT = 4,     /* the description or the state is at fault, as the call tells */
     ITS_HANDLE = 5,    /* the handle has no machine; at its_new: it has one already */
-    ITS_FULL = 6,      /* the guest has as many events, devices or pages as it may; of its_new: more */
+    ITS_FULL = 6,      /* the guest has as many events, devices or pages as it may; of its_new and its_share: more */
     ITS_BUSY = 7,      /* of a pass: another has a part that is needed, or made a call meanwhile; try again */
     ITS_SPENT = 8      /* of a pass: all places of the machine's history are used, and no call is made */
 };
@@ -569,8 +569,8 @@ struct its_pass {
 
 /*
  * Makes a machine that threads share, and gives its first pass, the root, to a handle that has none.
- * Arguments and answers as of its_new, but that ITS_HANDLE is of a handle with a pass, and that the
- * description's limits aren't asked: no call of a pass is ITS_FULL.
+ * Arguments and answers as of its_new, but that ITS_HANDLE is of a handle with a pass. The calls of the
+ * root keep to the description's limits.
  */
 uint32_t its_share(struct its_pass *root, const struct its_description_in *numbers,
                    const struct its_window_in *windows, size_t windows_len, const uint64_t *pending,
@@ -581,7 +581,7 @@ uint32_t its_share(struct its_pass *root, const struct its_description_in *numbe
 
 /*
  * Splits another pass off the root, for a handle that has none: one for each thread, or each device queue.
- * It makes no call of the history. ITS_RANGE where `root` is not the root, or has given 2^32 - 1 passes;
+ * Its calls keep to the limits that those of the root then do. It makes no call of the history. ITS_RANGE where `root` is not the root, or has given 2^32 - 1 passes;
  * ITS_NO_MEMORY; ITS_HANDLE where `root` has no pass or `pass` has one.
  */
 uint32_t its_split(struct its_pass *root, struct its_pass *pass);
@@ -592,11 +592,18 @@ uint32_t its_split(struct its_pass *root, struct its_pass *pass);
  */
 uint32_t its_pass_free(struct its_pass *pass);
 
+/*
+ * How many events and devices may be mapped, and how many bytes of guest memory held, by this pass's calls
+ * from now on, and by those of passes that are split off it later; UINT64_MAX is no limit. What is mapped or
+ * held stays. Where passes have different limits each call keeps to those of its pass. ITS_HANDLE.
+ */
+uint32_t its_pass_limits(struct its_pass *pass, uint64_t events, uint64_t devices, uint64_t memory);
+
 /* A device's message. ITS_BUSY, ITS_SPENT, ITS_HANDLE, as each call of a pass that follows. */
 uint32_t its_pass_signal(struct its_pass *pass, uint32_t device, uint32_t event, uint64_t *place,
                          struct its_signal_out *out);
 
-/* A write by a requester at an address, as by its_dma. ITS_NO_MEMORY, ITS_RANGE. */
+/* A write by a requester at an address, as by its_dma. ITS_NO_MEMORY, ITS_FULL, ITS_RANGE. */
 uint32_t its_pass_dma(struct its_pass *pass, uint32_t requester, uint64_t address,
                       const uint8_t *bytes, size_t bytes_len, uint64_t *place,
                       struct its_dma_out *out);
@@ -623,19 +630,23 @@ uint32_t its_pass_write_lpi_register(struct its_pass *pass, uint32_t vcpu, uint3
 
 /*
  * The translator takes the next command of its queue. ITS_NO_MEMORY only of a command that adds a device,
- * an event or a collection. All bits of `concerned` are set where a command ran, also those of processors
+ * an event or a collection; ITS_FULL only of one that adds a device or an event, where as many are mapped as
+ * the limits say: the command stays in the queue. All bits of `concerned` are set where a command ran, also those of processors
  * that it didn't concern or that there aren't, and none where no command ran or it was refused.
  */
 uint32_t its_pass_step(struct its_pass *pass, uint64_t *place, struct its_step_out *out);
 
 /*
  * Copies 1 to 64 bytes to guest memory, which one window has; else the call is made and answers
- * ITS_OUTSIDE, with its place. ITS_NO_MEMORY, ITS_RANGE at another count.
+ * ITS_OUTSIDE, with its place. ITS_NO_MEMORY, ITS_FULL as of its_write_memory, ITS_RANGE at another count.
  */
 uint32_t its_pass_write_memory(struct its_pass *pass, uint64_t address, const uint8_t *bytes,
                                size_t bytes_len, uint64_t *place);
 
-/* Copies 1 to 64 bytes of guest memory into `buffer`; else as for writing, but for ITS_NO_MEMORY. */
+/*
+ * Copies 1 to 64 bytes of guest memory into `buffer`; else as for writing, but for ITS_NO_MEMORY and
+ * ITS_FULL.
+ */
 uint32_t its_pass_read_memory(struct its_pass *pass, uint64_t address, uint8_t *buffer,
                               size_t buffer_len, uint64_t *place);
 

@@ -57,6 +57,15 @@ static int again(struct caller *caller, uint32_t code, uint32_t *round)
     return 1;
 }
 
+/* By this pass, and by those that are split off it, the guest maps no more than this. */
+static void bound(struct caller *caller, uint64_t events, uint64_t devices)
+{
+    uint32_t code = its_pass_limits(&caller->pass, events, devices, UINT64_MAX);
+
+    if (code != ITS_DONE)
+        fail("its_pass_limits", code);
+}
+
 /* Writes a call down that was made. */
 static void note(struct caller *caller, uint64_t place, const char *replied, const char *asked, ...)
 {

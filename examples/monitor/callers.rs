@@ -49,6 +49,7 @@ extern "C" {
         fault: *mut MakeFault,
     ) -> u32;
     pub fn its_split(root: *mut Pass, pass: *mut Pass) -> u32;
+    fn its_pass_limits(pass: *mut Pass, events: u64, devices: u64, memory: u64) -> u32;
     fn its_pass_free(pass: *mut Pass) -> u32;
     fn its_pass_signal(pass: *mut Pass, device: u32, event: u32, place: *mut u64, out: *mut Signal) -> u32;
     fn its_pass_take(pass: *mut Pass, vcpu: u32, place: *mut u64, out: *mut Ack) -> u32;
@@ -148,6 +149,12 @@ fn wait(round: u32) {
 impl Caller {
     pub fn new(pass: Pass) -> Caller {
         Caller { pass, calls: Vec::new(), busy: 0 }
+    }
+
+    /// By this pass, and by those that are split off it, the guest maps no more than this.
+    pub fn bound(&mut self, events: u64, devices: u64) {
+        let code = unsafe { its_pass_limits(&mut self.pass, events, devices, u64::MAX) };
+        assert_eq!(code, DONE, "what its_pass_limits answers");
     }
 
     /// Tries a call until it isn't busy: what it answers, at which place.

@@ -162,6 +162,7 @@ CALL(share_restored, its_share(&root, &numbers, (struct its_window_in[]){{RAM, R
                                VCPUS, (struct its_requesters_in[]){{16, 31, 7}}, 1, (struct its_fill_in[]){{RAM, RAM_BYTES}},
                                1, memory, sizeof memory, &unmade))
 CALL(split, its_split(&root, &pass))
+CALL(pass_limits, its_pass_limits(&pass, 100000, 100000, UINT64_MAX))
 CALL(end_pass, its_pass_free(&pass))
 CALL(end_root, its_pass_free(&root))
 CALL(pass_send, its_pass_signal(&pass, 7, 2, &place, &signalled))
@@ -370,6 +371,7 @@ static void machine_that_threads_share(void)
     size_t whole = depth_of(share);
     made("its_share");
     tell("its_split", split);
+    tell("its_pass_limits", pass_limits);
     life_of_a_pass();
     tell("its_pass_write_memory", pass_write_memory);
     tell("its_pass_read_memory", pass_read_memory);

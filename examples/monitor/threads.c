@@ -280,6 +280,7 @@ int main(int argc, char **argv)
     if (argc > 1)
         signals = (uint32_t)strtoul(argv[1], NULL, 10);
     share(&root.pass);
+    bound(&root, LPIS, DEVICES);
     queue_at = drive(&root);
     driven = root.count;
     for (i = 0; i < THREADS; i++) {

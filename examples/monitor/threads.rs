@@ -277,6 +277,7 @@ fn print_all(phases: &[Vec<&[Call]>]) {
 fn main() {
     let count = env::args().nth(1).map_or(500, |word| word.parse().expect("a number of signals"));
     let mut root = Caller::new(share());
+    root.bound(LPIS as u64, u64::from(DEVICES));
     let mut guest = Guest::new();
     guest.drive(&mut root);
     let driven = root.calls.len();

@@ -30,11 +30,13 @@ use Rattle.device_port.specs.Tries.{DmasOnce}
 use Rattle.device_port.specs.declared.told.Dma.{Dma}
 use Rattle.device_port.specs.Signals.{SignalsOnce}
 use Rattle.device_port.specs.declared.message.Message.{Message}
+use Rattle.guest_port.specs.declared.pages.Unheld.{Unheld}
+use Rattle.guest_port.specs.declared.pages.Unheld.TheVariants as unheld
 use Rattle.gicr_lpi.specs.Accesses.{IsOfWrite, WasAsked, access, write_call}
 use Rattle.gicr_lpi.specs.Tries.{TriesParts, FoundNoMemory}
 use Rattle.its_migrate.specs.Tries.{TriesSave, HadNoMemory}
 use Rattle.lpi_pending.specs.Rooms.{is_enable}
-use Rattle.its_shared.specs.Answers.{Answers, answer_of, answer_of_tried, answer_or_none}
+use Rattle.its_shared.specs.Answers.{Answers, answer_of, answer_of_tried, answer_or_none, answer_or_unheld}
 use Rattle.its_shared.specs.Asked as asked
 use Rattle.its_shared.specs.Knowing.{Known}
 use Rattle.its_shared.specs.declared.answer.Answer.{Answer}
@@ -93,11 +95,12 @@ of_gicr s vcpu offset size value v w (Err e) same t =
     (t.up.stays, subst (λ (z : Setup). WasAsked z (access (record { 0 = vcpu }) offset size value) is_enable) (sym same) t.asked)
 
 -- a write of guest memory
-pub of_write : (address : ℕ) (bytes : List ℕ) (v w : View) (r : Result (Attempt Reply) AllocError)
+pub of_write : (address : ℕ) (bytes : List ℕ) (v w : View) (r : Result (Attempt Reply) Unheld)
     → MatchResult r (λ a. TriesPart v part.Mem (asked.write_memory address bytes) (λ k. k) w a) (λ _. GaveUp v (part.Mem ∷ []) w)
-    → Answers (asked.write_memory address bytes) (λ k. k) v w (answer_or_none r)
+    → Answers (asked.write_memory address bytes) (λ k. k) v w (answer_or_unheld r)
 of_write address bytes v w (Ok a) t = of_part part.Mem (asked.write_memory address bytes) (λ k. k) v w a t
-of_write address bytes v w (Err e) t = (t.stays, tt)
+of_write address bytes v w (Err unheld.NoMemory) t = (t.stays, tt)
+of_write address bytes v w (Err unheld.Full) t = (t.stays, tt)
 
 -- a write by address
 of_dma_made : (c : Call) (to : Route) (v w : View) (a : Attempt Dma) → DmasOnce v c to w a → Answers c reply_of v w (answer_of a)
@@ -106,12 +109,13 @@ of_dma_made c to v w (attempt.Busy b) t = (t.2.stays, inl t.2.out)
 of_dma_made c to v w (attempt.Raced r) t = (t.2.stays, inl t.2.out)
 of_dma_made c to v w attempt.Spent t = (t.2.stays, t.2.spent)
 
-pub of_dma : (d : Desc) (req : ℕ) (addr : Addr) (bytes : List ℕ) (v w : View) (r : Result (Attempt Dma) AllocError)
+pub of_dma : (d : Desc) (req : ℕ) (addr : Addr) (bytes : List ℕ) (v w : View) (r : Result (Attempt Dma) Unheld)
     → MatchResult r (λ a. DmasOnce v (dma_of d req addr bytes) (route_of d req addr.0 bytes) w a)
     (λ _. (route_of d req addr.0 bytes ≡ routes.Poke) × GaveUp v (part.Mem ∷ []) w)
-    → Answers (dma_of d req addr bytes) reply_of v w (answer_or_none r)
+    → Answers (dma_of d req addr bytes) reply_of v w (answer_or_unheld r)
 of_dma d req addr bytes v w (Ok a) t = of_dma_made (dma_of d req addr bytes) (route_of d req addr.0 bytes) v w a t
-of_dma d req addr bytes v w (Err e) t = (t.1.stays, t.0)
+of_dma d req addr bytes v w (Err unheld.NoMemory) t = (t.1.stays, t.0)
+of_dma d req addr bytes v w (Err unheld.Full) t = (t.1.stays, t.0)
 
 -- a step
 pub of_step : (P : Part → Type 0) (v w : View) (r : Tried StepReply) → TriesOnce P v asked.step reply.Step w r
@@ -122,6 +126,7 @@ of_step P v w (tried.Raced r) t = (t.stays, inl t.why.out)
 of_step P v w tried.Late t = (t.stays, inr t.why.1)
 of_step P v w tried.Spent t = (t.stays, t.why.1)
 of_step P v w tried.NoMemory t = (t.stays, t.why.1)
+of_step P v w tried.Full t = (t.stays, tt)
 
 -- a write of the translator's registers
 pub of_write_register : (offset size value : ℕ) (P : Part → Type 0) (v w : View) (r : Tried (Unit {0}))
@@ -133,6 +138,7 @@ of_write_register offset size value P v w (tried.Raced r) t = (t.stays, inl t.wh
 of_write_register offset size value P v w tried.Late t = (t.stays, inr t.why.1)
 of_write_register offset size value P v w tried.Spent t = (t.stays, t.why.1)
 of_write_register offset size value P v w tried.NoMemory t = (t.stays, t.why.1)
+of_write_register offset size value P v w tried.Full t = absurd t.why.1
 
 -- a save
 of_save_made : (v w : View) (a : Attempt (Result (Unit {0}) SaveFault)) → TriesSave v w a → Answers call.Save save_reply v w (answer_of a)

@@ -8,3 +8,5 @@ pub mod Needing
 pub mod Beside
 pub mod Home
 pub mod Shown
+pub mod Limiting
+pub mod Rooted

@@ -11,7 +11,7 @@ use Rattle.its_steps.specs.World.{View}
 use Rattle.its_shared.specs.Answers.{Answers, HasCount, IsLong}
 use Rattle.its_shared.specs.Asked as asked
 use Rattle.its_shared.specs.declared.answer.Answer.{Answer}
-use Rattle.its_shared.specs.declared.answer.Answer.TheVariants.{Made, Busy, Spent, NoMemory}
+use Rattle.its_shared.specs.declared.answer.Answer.TheVariants.{Made, Busy, Spent, NoMemory, Full}
 
 last_legal : (u : Plain) (h : List Entry) (e : Entry) → IsLegal u (h ++ e ∷ []) → e.reply ≡ (answer (after u h) e.call).0
 last_legal u [] e p = p.0
@@ -38,3 +38,4 @@ is_long address n v w (Made p) t =
 is_long address n v w Busy t = tt
 is_long address n v w Spent t = tt
 is_long address n v w NoMemory t = tt
+is_long address n v w Full t = tt

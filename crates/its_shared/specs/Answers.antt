@@ -16,10 +16,12 @@ use Rattle.cmd_engine.specs.Telling.{WantsMemory}
 use Rattle.cmd_engine.specs.declared.tried.Tried.{Tried}
 use Rattle.cmd_engine.specs.declared.tried.Tried.TheVariants as tried
 use Rattle.gicr_lpi.specs.Accesses.{WasAsked, access}
+use Rattle.guest_port.specs.declared.pages.Unheld.{Unheld}
+use Rattle.guest_port.specs.declared.pages.Unheld.TheVariants as unheld
 use Rattle.lpi_pending.specs.Rooms.{is_enable}
 use Rattle.std.specs.declared.alloc.AllocError.{AllocError}
 use Rattle.its_shared.specs.declared.answer.Answer.{Answer}
-use Rattle.its_shared.specs.declared.answer.Answer.TheVariants.{Made, Busy, Spent, NoMemory}
+use Rattle.its_shared.specs.declared.answer.Answer.TheVariants.{Made, Busy, Spent, NoMemory, Full}
 
 -- ---- from what a port says
 
@@ -35,6 +37,12 @@ abbrev pub answer_or_none : {T : Type 0} → Result (Attempt T) AllocError → A
 answer_or_none (Ok a) = answer_of a
 answer_or_none (Err e) = NoMemory
 
+-- of one whose pages may not be held
+abbrev pub answer_or_unheld : {T : Type 0} → Result (Attempt T) Unheld → Answer T
+answer_or_unheld (Ok a) = answer_of a
+answer_or_unheld (Err unheld.NoMemory) = NoMemory
+answer_or_unheld (Err unheld.Full) = Full
+
 -- of a step, or of a write of the translator's registers
 abbrev pub answer_of_tried : {T : Type 0} → Tried T → Answer T
 answer_of_tried (tried.Done p) = Made p
@@ -43,6 +51,7 @@ answer_of_tried (tried.Raced r) = Busy
 answer_of_tried tried.Late = Busy
 answer_of_tried tried.Spent = Spent
 answer_of_tried tried.NoMemory = NoMemory
+answer_of_tried tried.Full = Full
 
 -- ---- what it says
 
@@ -62,15 +71,23 @@ Wants (call.Dma req addr bytes to) v w = to ≡ route.Poke
 Wants call.Save v w = Unit {0}
 Wants other v w = ⊥
 
+-- which calls are held to a limit: a step, and a write of guest memory
+abbrev pub HasLimit : Call → Type 0
+HasLimit (call.Step its) = Unit {0}
+HasLimit (call.Poke addr bytes) = Unit {0}
+HasLimit (call.Dma req addr bytes to) = to ≡ route.Poke
+HasLimit other = ⊥
+
 -- Where a call was made, one entry came into the history of the machine: its own, at its place, with its reply, after all that the
 -- pass had seen, and the history up to it is legal. Else none of the pass's came, and the pass is as it was, but that it may have
 -- seen more and tried turns. A call is busy only where another pass is out, or where it is late; spent only where the history is
--- full; and wants memory only where its kind says so
+-- full; and wants memory, or has a limit, only where its kind says so
 abbrev pub Answers : {T : Type 0} → Call → (T → Reply) → View → View → Answer T → Type 0
 Answers c reply v w (Made p) = IsPlaced v c (reply p.reply) p.place w
 Answers c reply v w Busy = Stays v w × ((¬ IsLone v) ⊎ IsLate c v w)
 Answers c reply v w Spent = Stays v w × (length w.seen ≡ v.setup.limits.place_last)
 Answers c reply v w NoMemory = Stays v w × Wants c v w
+Answers c reply v w Full = Stays v w × HasLimit c
 
 -- bytes that were read are so many
 abbrev pub IsLong : ℕ → Reply → Type 0

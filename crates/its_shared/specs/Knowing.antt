@@ -1,6 +1,7 @@
 -- What a pass knows, as the calls speak of it.
 use Rattle.std.specs.Prelude.{ℕ, ◌^◌, Bool, ◌==◌, ◌&&◌, nat_lt}
 use Rattle.its_plain.specs.declared.desc.Desc.{Desc}
+use Rattle.its_numbers.specs.declared.limits.GuestLimits.{GuestLimits}
 use Rattle.its_steps.specs.Parts.{vcpu_count}
 use Rattle.its_steps.specs.World.{View}
 
@@ -9,6 +10,12 @@ pub record Known : Type 0 where
   pub view : View
   -- what the machine was made from, but for the bytes put into memory and what it was restored with
   pub desc : Desc
+  -- how much the guest may take by its calls
+  pub limits : GuestLimits
+
+-- what it knows beside the view
+abbrev pub beside : Known → Desc × GuestLimits
+beside k = (k.desc, k.limits)
 
 -- there is a virtual processor of this number
 abbrev pub has_vcpu : Known → ℕ → Bool

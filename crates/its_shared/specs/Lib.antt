@@ -3,6 +3,7 @@ pub mod Asked
 pub mod Besides
 pub mod Knowing
 pub mod Lending
+pub mod Limits
 pub mod Making
 pub mod Owning
 pub mod Ports

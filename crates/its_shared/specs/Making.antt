@@ -1,5 +1,5 @@
 -- The outcome of making a machine that threads share.
-use Rattle.std.specs.Prelude.{◌≡◌, ◌-◌, ◌^◌, Option, Some, None, Result, Ok, Err}
+use Rattle.std.specs.Prelude.{◌≡◌, ◌-◌, ◌^◌, false, Option, Some, None, Result, Ok, Err}
 use Rattle.its_plain.specs.Described.{IsFirstState, IsRefused}
 use Rattle.its_plain.specs.declared.desc.Desc.{Desc}
 use Rattle.its_plain.specs.declared.make.MakeError.{MakeError}
@@ -7,7 +7,10 @@ use Rattle.its_plain.specs.declared.make.MakeError.TheVariants as errors
 use Rattle.its_steps.specs.World.{first_view}
 use Rattle.its_types.specs.declared.machine.Limits.{Limits}
 use Rattle.its_turns.specs.Opening.{kept_of}
+use Rattle.its_numbers.specs.Limits.{IsTooMuch, is_over}
+use Rattle.its_numbers.specs.declared.limits.GuestLimits.{GuestLimits}
 use Rattle.its_shared.specs.Knowing.{Known}
+use Rattle.its_shared.specs.declared.pass.Pass.{Pass}
 
 -- a stamp has 8 bits, and a place 56
 abbrev pub wide_places : Limits
@@ -31,6 +34,17 @@ IsSharedFrom d (Ok k) = IsFirst d k
 IsSharedFrom d (Err (errors.Fault f)) = IsRefused d f
 IsSharedFrom d (Err errors.NoMemory) = Unit {0}
 
-abbrev pub IsShared : Desc → Option Known → Type 0
-IsShared d None = ⊥
-IsShared d (Some k) = IsFirst d k
+-- it maps no more than may be, and its calls keep to the limits
+pub record IsRootOf (d : Desc) (l : GuestLimits) (k : Known) : Type 0 where
+  pub first : IsFirst d k
+  pub within : is_over l k.view.setup.start ≡ false
+  pub limits : k.limits ≡ l
+
+abbrev pub IsShared : Desc → GuestLimits → Option Known → Type 0
+IsShared d l None = ⊥
+IsShared d l (Some k) = IsRootOf d l k
+
+-- or there is no root, since it would map or hold more than may be
+abbrev pub IsMadeWithin : Desc → GuestLimits → Option Pass → Type 0
+IsMadeWithin d l None = IsTooMuch d l
+IsMadeWithin d l (Some p) = IsShared d l p.known

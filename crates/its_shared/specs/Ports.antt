@@ -11,7 +11,7 @@ use Rattle.its_shared.specs.declared.port.Port.TheInside.{Inside}
 
 -- what the pass knows
 abbrev pub known_by : Inside → Known
-known_by p = record { view = view p.pass; desc = (arc_value p.machine).desc }
+known_by p = record { view = view p.pass; desc = (arc_value p.machine).desc; limits = p.limits }
 
 -- the pass is one of the machine, and holds nothing
 pub record IsPort (p : Inside) : Type 0 where
@@ -27,3 +27,4 @@ pub record Splits (k l p : Known) : Type 0 where
   pub root : l.view ≡ has_split before
   pub pass : p.view ≡ split_off before
   pub desc : (l.desc ≡ k.desc) × (p.desc ≡ k.desc)
+  pub limits : (l.limits ≡ k.limits) × (p.limits ≡ k.limits)

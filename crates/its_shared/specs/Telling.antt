@@ -15,12 +15,13 @@ use Rattle.its_numbers.specs.Codes as codes
 use Rattle.its_numbers.specs.Faults.{save_fault_out}
 use Rattle.its_numbers.specs.Replies.{step_out, dma_out}
 use Rattle.its_numbers.specs.declared.faults.SaveFaultOut.{SaveFaultOut}
+use Rattle.its_numbers.specs.declared.limits.GuestLimits.{GuestLimits}
 use Rattle.its_numbers.specs.declared.replies.DmaOut.{DmaOut}
 use Rattle.its_numbers.specs.declared.replies.StepOut.{StepOut}
 use Rattle.its_shared.specs.Answers.{Answers}
-use Rattle.its_shared.specs.Knowing.{Known}
+use Rattle.its_shared.specs.Knowing.{Known, beside}
 use Rattle.its_shared.specs.declared.answer.Answer.{Answer}
-use Rattle.its_shared.specs.declared.answer.Answer.TheVariants.{Made, Busy, Spent, NoMemory}
+use Rattle.its_shared.specs.declared.answer.Answer.TheVariants.{Made, Busy, Spent, NoMemory, Full}
 use Rattle.its_shared.specs.declared.pass.Pass.{Pass}
 
 -- the number of an answer, where that of a reply is given
@@ -29,6 +30,7 @@ code_of of (Made p) = of p.reply
 code_of of Busy = codes.busy
 code_of of Spent = codes.spent
 code_of of NoMemory = codes.no_memory
+code_of of Full = codes.full
 
 -- the place is told of a call that was made
 abbrev pub place_after : {T : Type 0} → Answer T → ℕ → ℕ
@@ -111,6 +113,6 @@ dma_told to answer = dma_out to (reply_of answer)
 abbrev pub InPass : Pass → Pass → (Known → Known → Type 0) → Type 0
 InPass before after P = (k l : Known) → before.known ≡ Some k → after.known ≡ Some l → P k l
 
--- the description of the machine that the pass of a handle is of, if it has one
-abbrev pub machine_of : Pass → Option Desc
-machine_of pass = option_map (λ k. k.desc) pass.known
+-- the description of the machine that the pass of a handle is of, and the limits that it keeps to, if it has one
+abbrev pub machine_of : Pass → Option (Desc × GuestLimits)
+machine_of pass = option_map beside pass.known

@@ -5,7 +5,7 @@ ghost use Rattle.its_numbers.specs.Replies.{ack_out};
 ghost use Rattle.its_plain.specs.declared.call.Reply.TheVariants as reply;
 ghost use Rattle.its_shared.specs.Asked as asked;
 ghost use Rattle.its_shared.specs.Asked.{has_mask};
-ghost use Rattle.its_shared.specs.Knowing.{has_vcpu};
+ghost use Rattle.its_shared.specs.Knowing.{has_vcpu, beside};
 ghost use Rattle.its_shared.specs.Telling.{Tells, as_told, is_done};
 
 use crate::port::Port;
@@ -14,7 +14,7 @@ use its_numbers::{AckOut, RANGE};
 
 /// A virtual processor acknowledges its lowest LPI that is pending and enabled.
 pub fn take(port: &mut Port, vcpu: u32, place: &mut u64, out: &mut AckOut) -> u32
-    ensures desc { port.new.desc ≡ port.old.desc }
+    ensures beside { beside port.new ≡ beside port.old }
     ensures range { has_vcpu port.old vcpu ≡ false → (result ≡ codes.range)
         × (port.new ≡ port.old) × (place.new ≡ place.old) × (out.new ≡ out.old) }
     ensures told { has_vcpu port.old vcpu ≡ true → Tells is_done (as_told ack_out) (asked.take
@@ -30,7 +30,7 @@ pub fn take(port: &mut Port, vcpu: u32, place: &mut u64, out: &mut AckOut) -> u3
 
 /// The LPI that a virtual processor would acknowledge.
 pub fn show(port: &mut Port, vcpu: u32, place: &mut u64, out: &mut AckOut) -> u32
-    ensures desc { port.new.desc ≡ port.old.desc }
+    ensures beside { beside port.new ≡ beside port.old }
     ensures range { has_vcpu port.old vcpu ≡ false → (result ≡ codes.range)
         × (port.new ≡ port.old) × (place.new ≡ place.old) × (out.new ≡ out.old) }
     ensures told { has_vcpu port.old vcpu ≡ true → Tells is_done (as_told ack_out) (asked.show
@@ -46,7 +46,7 @@ pub fn show(port: &mut Port, vcpu: u32, place: &mut u64, out: &mut AckOut) -> u3
 
 /// The LPI that comes first by priority, of those whose priority is below a mask.
 pub fn best(port: &mut Port, vcpu: u32, mask: u32, place: &mut u64, out: &mut AckOut) -> u32
-    ensures desc { port.new.desc ≡ port.old.desc }
+    ensures beside { beside port.new ≡ beside port.old }
     ensures range { has_mask port.old vcpu mask ≡ false → (result ≡ codes.range)
         × (port.new ≡ port.old) × (place.new ≡ place.old) × (out.new ≡ out.old) }
     ensures told { has_mask port.old vcpu mask ≡ true → Tells is_done (as_told ack_out) (asked.best
@@ -62,7 +62,7 @@ pub fn best(port: &mut Port, vcpu: u32, mask: u32, place: &mut u64, out: &mut Ac
 
 /// A virtual processor acknowledges this LPI, if it is pending and enabled.
 pub fn claim(port: &mut Port, vcpu: u32, intid: u32, place: &mut u64, out: &mut AckOut) -> u32
-    ensures desc { port.new.desc ≡ port.old.desc }
+    ensures beside { beside port.new ≡ beside port.old }
     ensures range { has_vcpu port.old vcpu ≡ false → (result ≡ codes.range)
         × (port.new ≡ port.old) × (place.new ≡ place.old) × (out.new ≡ out.old) }
     ensures told { has_vcpu port.old vcpu ≡ true → Tells is_done (as_told ack_out) (asked.claim

@@ -1,8 +1,10 @@
 //! The answer of a call that waits for nobody.
 ghost use Rattle.std.specs.Prelude.{◌≡◌};
 ghost use Rattle.its_shared.specs.Answers.{answer_of, answer_of_tried, answer_or_none};
+ghost use Rattle.its_shared.specs.Answers.{answer_or_unheld};
 
 use cmd_engine::Tried;
+use guest_port::Unheld;
 use its_turns::Attempt;
 use its_types::Placed;
 use std::alloc::AllocError;
@@ -18,6 +20,8 @@ pub enum Answer<T> {
     Spent,
     /// It was not: there was no memory for it.
     NoMemory,
+    /// It was not: the guest would take more than it may.
+    Full,
 }
 
 /// Of an attempt.
@@ -41,6 +45,17 @@ pub fn answered_if<T>(tried: Result<Attempt<T>, AllocError>) -> Answer<T>
     }
 }
 
+/// Of an attempt whose pages may not be held.
+pub fn answered_held<T>(tried: Result<Attempt<T>, Unheld>) -> Answer<T>
+    ensures { result ≡ answer_or_unheld tried }
+{
+    match tried {
+        Ok(attempt) => answered(attempt),
+        Err(Unheld::NoMemory) => Answer::NoMemory,
+        Err(Unheld::Full) => Answer::Full,
+    }
+}
+
 /// Of a step, or of a write of the translator's registers.
 pub fn answered_tried<T>(tried: Tried<T>) -> Answer<T>
     ensures { result ≡ answer_of_tried tried }
@@ -50,5 +65,6 @@ pub fn answered_tried<T>(tried: Tried<T>) -> Answer<T>
         Tried::Busy(_) | Tried::Raced(_) | Tried::Late => Answer::Busy,
         Tried::Spent => Answer::Spent,
         Tried::NoMemory => Answer::NoMemory,
+        Tried::Full => Answer::Full,
     }
 }

@@ -1,13 +1,14 @@
 //! The calls of a pass, each turn that it needs tried once.
 ghost use Rattle.std.specs.Prelude.{◌≡◌};
 
-use crate::answer::{Answer, answered, answered_if, answered_tried};
+use crate::answer::{Answer, answered, answered_held, answered_if, answered_tried};
+use crate::limits::Within;
 use crate::port::Port;
-use cmd_engine::{try_read_reg, try_step, try_write_reg};
-use device_port::{Dma, signal_once, try_dma};
+use cmd_engine::{try_read_reg, try_step_within, try_write_reg};
+use device_port::{Dma, signal_once, try_dma_within};
 use dma_routes::route;
 use gicr_lpi::{try_read_gicr, try_write_gicr};
-use guest_port::{try_peek, try_poke};
+use guest_port::{try_peek, try_poke_within};
 use its_migrate::try_save;
 use its_plain::{Ack, Bytes64, Reply, Route, SaveFault, Signal, StepReply};
 use its_types::{Addr, DeviceId, EventId, Intid, Open, Vcpu};
@@ -15,7 +16,7 @@ use redist_ack::{try_best, try_claim, try_show, try_take};
 use std::alloc::Global;
 
 impl Port {
-    ghost use Rattle.std.specs.Prelude.{◌≡◌, true};
+    ghost use Rattle.std.specs.Prelude.{◌≡◌, ◌≢◌, true};
     ghost use Rattle.device_port.specs.Dmas.{reply_of};
     ghost use Rattle.its_plain.specs.Answer.{save_reply};
     ghost use Rattle.its_plain.specs.Doorbells.{route_of};
@@ -24,10 +25,13 @@ impl Port {
     ghost use Rattle.its_shared.specs.Answers.{Answers, HasCount};
     ghost use Rattle.its_shared.specs.Asked as asked;
     ghost use Rattle.its_shared.specs.Knowing as spec;
+    ghost use Rattle.its_shared.specs.Limits.{KeepsWithin};
+    ghost use Rattle.its_shared.specs.declared.answer.Answer.TheVariants.{Full};
+    ghost use Rattle.its_numbers.specs.Limits.{no_limit};
 
     /// A device's message.
     pub fn signal(&mut self, device: u32, event: u32) -> Answer<Signal>
-        ensures desc { self.new.desc ≡ self.old.desc }
+        ensures beside { spec.beside self.new ≡ spec.beside self.old }
         ensures answer { Answers (asked.signal device event) reply.Signal
             self.old.view self.new.view result }
     {
@@ -43,7 +47,7 @@ impl Port {
     /// A virtual processor acknowledges its lowest LPI.
     pub fn take(&mut self, vcpu: u16) -> Answer<Ack>
         requires { spec.has_vcpu self.old vcpu ≡ true }
-        ensures desc { self.new.desc ≡ self.old.desc }
+        ensures beside { spec.beside self.new ≡ spec.beside self.old }
         ensures answer { Answers (asked.take vcpu) reply.Ack
             self.old.view self.new.view result }
     {
@@ -53,7 +57,7 @@ impl Port {
     /// The LPI that it would acknowledge.
     pub fn show(&mut self, vcpu: u16) -> Answer<Ack>
         requires { spec.has_vcpu self.old vcpu ≡ true }
-        ensures desc { self.new.desc ≡ self.old.desc }
+        ensures beside { spec.beside self.new ≡ spec.beside self.old }
         ensures answer { Answers (asked.show vcpu) reply.Ack
             self.old.view self.new.view result }
     {
@@ -63,7 +67,7 @@ impl Port {
     /// The LPI that comes first by priority below a mask.
     pub fn best(&mut self, vcpu: u16, mask: u8) -> Answer<Ack>
         requires { spec.has_vcpu self.old vcpu ≡ true }
-        ensures desc { self.new.desc ≡ self.old.desc }
+        ensures beside { spec.beside self.new ≡ spec.beside self.old }
         ensures answer { Answers (asked.best vcpu mask) reply.Ack
             self.old.view self.new.view result }
     {
@@ -73,7 +77,7 @@ impl Port {
     /// A virtual processor acknowledges this LPI.
     pub fn claim(&mut self, vcpu: u16, intid: u32) -> Answer<Ack>
         requires { spec.has_vcpu self.old vcpu ≡ true }
-        ensures desc { self.new.desc ≡ self.old.desc }
+        ensures beside { spec.beside self.new ≡ spec.beside self.old }
         ensures answer { Answers (asked.claim vcpu intid) reply.Ack
             self.old.view self.new.view result }
     {
@@ -88,7 +92,7 @@ impl Port {
 
     /// A read of the translator's control frame.
     pub fn read_register(&mut self, offset: u32, size: u8) -> Answer<u64>
-        ensures desc { self.new.desc ≡ self.old.desc }
+        ensures beside { spec.beside self.new ≡ spec.beside self.old }
         ensures answer { Answers (asked.read_register offset size) reply.Value
             self.old.view self.new.view result }
     {
@@ -97,7 +101,7 @@ impl Port {
 
     /// A write of the translator's control frame.
     pub fn write_register(&mut self, offset: u32, size: u8, value: u64) -> Answer<()>
-        ensures desc { self.new.desc ≡ self.old.desc }
+        ensures beside { spec.beside self.new ≡ spec.beside self.old }
         ensures answer { Answers (asked.write_register offset size value) (λ _. reply.Ok)
             self.old.view self.new.view result }
     {
@@ -107,7 +111,7 @@ impl Port {
     /// A read of the LPI registers of a redistributor.
     pub fn read_lpi_register(&mut self, vcpu: u16, offset: u32, size: u8) -> Answer<u64>
         requires { spec.has_vcpu self.old vcpu ≡ true }
-        ensures desc { self.new.desc ≡ self.old.desc }
+        ensures beside { spec.beside self.new ≡ spec.beside self.old }
         ensures answer { Answers (asked.read_lpi_register vcpu offset size) reply.Value
             self.old.view self.new.view result }
     {
@@ -124,7 +128,7 @@ impl Port {
     /// A write of the LPI registers of a redistributor.
     pub fn write_lpi_register(&mut self, vcpu: u16, offset: u32, size: u8, value: u64) -> Answer<()>
         requires { spec.has_vcpu self.old vcpu ≡ true }
-        ensures desc { self.new.desc ≡ self.old.desc }
+        ensures beside { spec.beside self.new ≡ spec.beside self.old }
         ensures answer { Answers (asked.write_lpi_register vcpu offset size value) (λ _. reply.Ok)
             self.old.view self.new.view result }
     {
@@ -139,27 +143,39 @@ impl Port {
         ))
     }
 
-    /// The translator takes its next command.
+    /// The translator takes its next command, if that maps no more than may be.
     pub fn step(&mut self) -> Answer<StepReply>
-        ensures desc { self.new.desc ≡ self.old.desc }
+        ensures beside { spec.beside self.new ≡ spec.beside self.old }
         ensures answer { Answers asked.step reply.Step
             self.old.view self.new.view result }
+        ensures within { KeepsWithin self.old.limits self.old.view.setup.start self.new.view.seen
+            result }
     {
-        answered_tried(try_step(&self.machine, &mut self.pass, &Open))
+        let limits = Within(self.limits);
+        answered_tried(try_step_within(&self.machine, &mut self.pass, &Open, 0, &limits))
     }
 
-    /// A write of guest memory.
+    /// A write of guest memory, if no more pages are held for it than may be.
     pub fn write_memory(&mut self, address: u64, bytes: Bytes64) -> Answer<Reply>
-        ensures desc { self.new.desc ≡ self.old.desc }
+        ensures beside { spec.beside self.new ≡ spec.beside self.old }
         ensures answer { Answers (asked.write_memory address bytes) (λ r. r)
             self.old.view self.new.view result }
+        ensures full { result ≡ Full → self.old.limits.memory ≢ no_limit }
     {
-        answered_if(try_poke(&self.machine, &mut self.pass, &Open, Addr(address), &bytes))
+        let limits = Within(self.limits);
+        answered_held(try_poke_within(
+            &self.machine,
+            &mut self.pass,
+            &Open,
+            Addr(address),
+            &bytes,
+            &limits,
+        ))
     }
 
     /// A read of guest memory.
     pub fn read_memory(&mut self, address: u64, count: u8) -> Answer<Reply>
-        ensures desc { self.new.desc ≡ self.old.desc }
+        ensures beside { spec.beside self.new ≡ spec.beside self.old }
         ensures answer { Answers (asked.read_memory address count) (λ r. r)
             self.old.view self.new.view result }
         ensures count { HasCount count result }
@@ -169,7 +185,7 @@ impl Port {
 
     /// The tables are written to guest memory.
     pub fn save(&mut self, alloc: Global) -> Answer<Result<(), SaveFault>>
-        ensures desc { self.new.desc ≡ self.old.desc }
+        ensures beside { spec.beside self.new ≡ spec.beside self.old }
         ensures answer { Answers call.Save save_reply
             self.old.view self.new.view result }
     {
@@ -178,17 +194,20 @@ impl Port {
 
     /// A requester's write at an address.
     pub fn dma(&mut self, req: u32, address: u64, bytes: Bytes64) -> Answer<Dma>
-        ensures desc { self.new.desc ≡ self.old.desc }
+        ensures beside { spec.beside self.new ≡ spec.beside self.old }
         ensures answer { Answers (asked.dma self.old req address bytes)
             reply_of self.old.view self.new.view result }
+        ensures full { result ≡ Full → self.old.limits.memory ≢ no_limit }
     {
-        answered_if(try_dma(
+        let limits = Within(self.limits);
+        answered_held(try_dma_within(
             &self.machine,
             &mut self.pass,
             &Open,
             req,
             Addr(address),
             &bytes,
+            &limits,
         ))
     }
 

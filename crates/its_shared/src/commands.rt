@@ -1,9 +1,12 @@
 //! Commands, saves, and guest memory.
-ghost use Rattle.std.specs.Prelude.{◌≡◌, false, true, length};
+ghost use Rattle.std.specs.Prelude.{◌≡◌, ◌≢◌, false, true, length};
 ghost use Rattle.its_numbers.specs.Codes as codes;
+ghost use Rattle.its_numbers.specs.Limits.{no_limit};
 ghost use Rattle.its_plain.specs.Answer.{save_reply};
 ghost use Rattle.its_plain.specs.declared.call.Call.TheVariants as call;
 ghost use Rattle.its_plain.specs.declared.call.Reply.TheVariants as reply;
+ghost use Rattle.its_shared.specs.Knowing.{beside};
+ghost use Rattle.its_shared.specs.Limits.{StepsWithin};
 ghost use Rattle.its_shared.specs.Asked as asked;
 ghost use Rattle.its_shared.specs.Asked.{is_count};
 ghost use Rattle.its_shared.specs.Telling.{Tells, as_told, bytes_told, is_done, read_code};
@@ -18,9 +21,10 @@ use std::alloc::Global;
 
 /// The translator takes its next command (IHI 0069, section 5.3).
 pub fn step(port: &mut Port, place: &mut u64, out: &mut StepOut) -> u32
-    ensures desc { port.new.desc ≡ port.old.desc }
+    ensures beside { beside port.new ≡ beside port.old }
     ensures told { Tells is_done (as_told step_told) asked.step reply.Step
         port.old port.new result place.old place.new out.old out.new }
+    ensures within { StepsWithin port.old port.new result }
 {
     let answer = port.step();
     tell_step(answer, place, out)
@@ -28,7 +32,7 @@ pub fn step(port: &mut Port, place: &mut u64, out: &mut StepOut) -> u32
 
 /// The tables are written to guest memory (KVM document arm-vgic-its).
 pub fn save(port: &mut Port, alloc: Global, place: &mut u64, out: &mut SaveFaultOut) -> u32
-    ensures desc { port.new.desc ≡ port.old.desc }
+    ensures beside { beside port.new ≡ beside port.old }
     ensures told { Tells save_code save_told call.Save save_reply
         port.old port.new result place.old place.new out.old out.new }
 {
@@ -38,12 +42,13 @@ pub fn save(port: &mut Port, alloc: Global, place: &mut u64, out: &mut SaveFault
 
 /// A write of 1 to 64 bytes of guest memory.
 pub fn write_memory(port: &mut Port, address: u64, bytes: &[u8], place: &mut u64) -> u32
-    ensures desc { port.new.desc ≡ port.old.desc }
+    ensures beside { beside port.new ≡ beside port.old }
     ensures range { is_count bytes.now ≡ false → (result ≡ codes.range)
         × (port.new ≡ port.old) × (place.new ≡ place.old) }
     ensures told { is_count bytes.now ≡ true → Tells write_code nothing_told (asked.write_memory
         address bytes.now) (λ r. r)
         port.old port.new result place.old place.new tt tt }
+    ensures full { result ≡ codes.full → port.old.limits.memory ≢ no_limit }
 {
     if bytes.is_empty() || bytes.len() > 64 {
         return RANGE;
@@ -55,7 +60,7 @@ pub fn write_memory(port: &mut Port, address: u64, bytes: &[u8], place: &mut u64
 
 /// A read of 1 to 64 bytes of guest memory.
 pub fn read_memory(port: &mut Port, address: u64, buffer: &mut [u8], place: &mut u64) -> u32
-    ensures desc { port.new.desc ≡ port.old.desc }
+    ensures beside { beside port.new ≡ beside port.old }
     ensures range { is_count buffer.old ≡ false → (result ≡ codes.range)
         × (port.new ≡ port.old) × (place.new ≡ place.old) × (buffer.new ≡ buffer.old) }
     ensures told { is_count buffer.old ≡ true → Tells read_code bytes_told

@@ -13,6 +13,10 @@ mod besides;
 mod commands;
 mod event_look;
 mod lent;
+mod limit_calls;
+#[cfg(test)]
+mod limit_tests;
+mod limits;
 mod look_calls;
 #[cfg(test)]
 mod look_tests;

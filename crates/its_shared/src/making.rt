@@ -3,26 +3,31 @@ ghost use Rattle.std.specs.Prelude.{◌≡◌, ◌≢◌, ◌<◌, ◌≤◌, �
 ghost use Rattle.std.specs.Prelude.{IfOk, IfErr, is_none, is_some, length};
 ghost use Rattle.its_numbers.specs.Codes as codes;
 ghost use Rattle.its_numbers.specs.Descriptions.{is_in_range as in_range, description_of};
+ghost use Rattle.its_numbers.specs.Descriptions.{guest_limits_of};
+ghost use Rattle.its_numbers.specs.Limits.{IsTooMuch, IsTooMuchIn, is_over};
 ghost use Rattle.its_numbers.specs.Unmade.{IsUnmade};
 ghost use Rattle.its_shared.specs.Knowing.{Known, can_split};
 ghost use Rattle.its_plain.specs.Machine.{IsDescription};
-ghost use Rattle.its_shared.specs.Making.{IsShared, IsSharedFrom, shared};
+ghost use Rattle.its_shared.specs.Making.{IsMadeWithin, IsShared, IsSharedFrom, shared};
 ghost use Rattle.its_shared.specs.Ports.{Splits};
 ghost use Rattle.its_shared.specs.Telling.{InPass};
 
 use crate::pass::Pass;
 use crate::port::Port;
 use its_numbers::{
-    DONE, DescriptionIn, FAULT, FillIn, HANDLE, MakeFaultOut, NO_MEMORY, RANGE, RedistributorIn,
-    RequestersIn, WindowIn, description, is_in_range, make_fault_out,
+    DONE, DescriptionIn, FAULT, FULL, FillIn, GuestLimits, HANDLE, MakeFaultOut, NO_MEMORY, RANGE,
+    RedistributorIn, RequestersIn, WindowIn, description, guest_limits, is_in_range, is_past,
+    is_within, make_fault_out,
 };
 use its_plain::{Desc, MakeError};
 use its_types::Limits;
+use owned_machine::Machine as Owned;
 use std::alloc::Global;
 use std::mem::replace;
+use step_views::{device_count, event_count};
 
 /// A machine for threads to share, as numbers describe it, restored from guest memory where they
-/// say so. The handle, which has no pass before, gets its root.
+/// say so, if it maps no more than they say. The handle, which has no pass before, gets its root.
 #[unsafe(no_mangle)]
 pub extern "C" fn its_share(
     root: &mut Pass,
@@ -47,9 +52,13 @@ pub extern "C" fn its_share(
         (length bytes.now) ≡ false }
     ensures done { result ≡ codes.done
         → IsShared (shared (description_of numbers.now windows.now pending.now redistributors.now
-        requesters.now fills.now bytes.now)) root.new.known }
+        requesters.now fills.now bytes.now)) (guest_limits_of numbers.now) root.new.known }
     ensures same { result ≢ codes.done → root.new ≡ root.old }
-    ensures unmade { IsUnmade result
+    ensures full { result ≡ codes.full
+        → IsTooMuch (shared (description_of numbers.now windows.now pending.now redistributors.now
+        requesters.now fills.now bytes.now)) (guest_limits_of numbers.now) }
+    ensures untold { result ≡ codes.full → fault.new ≡ fault.old }
+    ensures unmade { result ≢ codes.full → IsUnmade result
         (shared (description_of numbers.now windows.now pending.now redistributors.now
         requesters.now fills.now bytes.now)) fault.old fault.new }
 {
@@ -82,11 +91,12 @@ pub extern "C" fn its_share(
         stamp_last: 255,
         place_last: (1 << 56) - 1,
     };
-    match made(alloc, &desc) {
-        Ok(made) => {
+    match made(alloc, &desc, guest_limits(numbers)) {
+        Ok(Some(made)) => {
             *root = made;
             DONE
         }
+        Ok(None) => FULL,
         Err(MakeError::NoMemory) => NO_MEMORY,
         Err(MakeError::Fault(found)) => {
             *fault = make_fault_out(found);
@@ -95,19 +105,35 @@ pub extern "C" fn its_share(
     }
 }
 
-// The handle of a root on the heap.
-fn made(alloc: Global, desc: &Desc) -> Result<Pass, MakeError>
+// The handle of a root on the heap. None where the machine would begin with more than may be.
+fn made(alloc: Global, desc: &Desc, limits: GuestLimits) -> Result<Option<Pass>, MakeError>
     requires description { IsDescription desc.now }
     requires some_shards { 1 ≤ desc.now.shards }
     requires most_shards { desc.now.shards ≤ 64 }
     requires stamps { desc.now.limits.stamp_last < 2 ^ 8 }
     requires places { desc.now.limits.place_last < 2 ^ 56 }
     requires one { length desc.now.translators ≡ 1 }
-    ensures made { IfOk result (λ p. IsShared desc.now p.known) }
+    ensures made { IfOk result (IsMadeWithin desc.now limits) }
     ensures refused { IfErr result (λ e. IsSharedFrom desc.now (Err e)) }
 {
-    let port = Port::new(alloc, desc)?;
-    Ok(Pass::of(Box::new(alloc, port)?))
+    let owned = Owned::new(alloc, desc)?;
+    if is_too_much(&owned, &limits) {
+        return Ok(None);
+    }
+    let port = Port::new(alloc, desc, owned, limits)?;
+    Ok(Some(Pass::of(Box::new(alloc, port)?)))
+}
+
+// More events, devices or pages than may be.
+#[tactic(auto, unfolding(its_numbers::specs::Limits::is_over))]
+fn is_too_much(owned: &Owned, limits: &GuestLimits) -> bool
+    ensures over { result ≡ false → is_over limits.now owned.now ≡ false }
+    ensures much { result ≡ true → IsTooMuchIn limits.now owned.now }
+{
+    let parts = owned.parts();
+    is_past(limits.events, event_count(parts, 0))
+        || is_past(limits.devices, u64::from(device_count(parts, 0)))
+        || !is_within(&parts.memory, limits.memory)
 }
 
 /// Another pass of the root's machine, which has seen what the root has. The handle has none

@@ -1,7 +1,8 @@
 //! The calls of a pass for messages of devices (IHI 0069, section 5.2).
-ghost use Rattle.std.specs.Prelude.{◌≡◌, false, true, None};
+ghost use Rattle.std.specs.Prelude.{◌≡◌, ◌≢◌, false, true, None};
 ghost use Rattle.device_port.specs.Dmas.{reply_of};
 ghost use Rattle.its_numbers.specs.Codes as codes;
+ghost use Rattle.its_numbers.specs.Limits.{no_limit};
 ghost use Rattle.its_numbers.specs.Replies.{signal_out};
 ghost use Rattle.its_plain.specs.Doorbells.{route_of};
 ghost use Rattle.its_plain.specs.declared.call.Reply.TheVariants as reply;
@@ -54,6 +55,8 @@ pub extern "C" fn its_pass_dma(
         → Tells is_done (as_told (dma_told (route_of k.desc requester address bytes.now)))
         (asked.dma k requester address bytes.now)
         reply_of k l result place.old place.new out.old out.new) }
+    ensures full { InPass pass.old pass.new (λ k l.
+        result ≡ codes.full → k.limits.memory ≢ no_limit) }
 {
     if pass.is_empty() {
         return HANDLE;

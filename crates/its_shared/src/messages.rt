@@ -1,10 +1,12 @@
 //! Messages of devices (IHI 0069, section 5.2).
-ghost use Rattle.std.specs.Prelude.{◌≡◌, false, true};
+ghost use Rattle.std.specs.Prelude.{◌≡◌, ◌≢◌, false, true};
 ghost use Rattle.device_port.specs.Dmas.{reply_of};
 ghost use Rattle.its_numbers.specs.Codes as codes;
+ghost use Rattle.its_numbers.specs.Limits.{no_limit};
 ghost use Rattle.its_numbers.specs.Replies.{signal_out};
 ghost use Rattle.its_plain.specs.Doorbells.{route_of};
 ghost use Rattle.its_plain.specs.declared.call.Reply.TheVariants as reply;
+ghost use Rattle.its_shared.specs.Knowing.{beside};
 ghost use Rattle.its_shared.specs.Asked as asked;
 ghost use Rattle.its_shared.specs.Asked.{is_count};
 ghost use Rattle.its_shared.specs.Telling.{Tells, as_told, dma_told, is_done};
@@ -16,7 +18,7 @@ use its_plain::Bytes64;
 
 /// A device's message.
 pub fn signal(port: &mut Port, device: u32, event: u32, place: &mut u64, out: &mut SignalOut) -> u32
-    ensures desc { port.new.desc ≡ port.old.desc }
+    ensures beside { beside port.new ≡ beside port.old }
     ensures told { Tells is_done (as_told signal_out) (asked.signal device event) reply.Signal
         port.old port.new result place.old place.new out.old out.new }
 {
@@ -33,13 +35,14 @@ pub fn dma(
     place: &mut u64,
     out: &mut DmaOut,
 ) -> u32
-    ensures desc { port.new.desc ≡ port.old.desc }
+    ensures beside { beside port.new ≡ beside port.old }
     ensures range { is_count bytes.now ≡ false → (result ≡ codes.range)
         × (port.new ≡ port.old) × (place.new ≡ place.old) × (out.new ≡ out.old) }
     ensures told { is_count bytes.now ≡ true → Tells is_done (as_told (dma_told (route_of
         port.old.desc requester address bytes.now))) (asked.dma port.old requester address
         bytes.now) reply_of
         port.old port.new result place.old place.new out.old out.new }
+    ensures full { result ≡ codes.full → port.old.limits.memory ≢ no_limit }
 {
     if bytes.is_empty() || bytes.len() > 64 {
         return RANGE;

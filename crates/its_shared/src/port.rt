@@ -1,11 +1,13 @@
-//! A pass with its share of the machine that it is of.
+//! A pass with its share of the machine that it is of, and the limits that its calls keep to.
 ghost use Rattle.std.specs.Prelude.{◌≡◌};
 
 use device_port::requesters_are_apart;
-use its_migrate::share;
-use its_plain::{Desc, MakeError};
+use its_migrate::share_owned;
+use its_numbers::GuestLimits;
+use its_plain::Desc;
 use its_turns::{Machine, Pass};
-use std::alloc::Global;
+use owned_machine::Machine as Owned;
+use std::alloc::{AllocError, Global};
 use std::marker::Model;
 use std::sync::Arc;
 
@@ -15,6 +17,7 @@ use std::sync::Arc;
 pub struct Port {
     pub(crate) machine: Arc<Machine, Global>,
     pub(crate) pass: Pass,
+    pub(crate) limits: GuestLimits,
 }
 
 impl Model for Port {
@@ -35,29 +38,41 @@ impl Model for Port {
 }
 
 impl Port {
-    ghost use Rattle.std.specs.Prelude.{◌≡◌, ◌<◌, ◌≤◌, ◌^◌, true, length, MatchOption};
+    ghost use Rattle.std.specs.Prelude.{◌≡◌, ◌<◌, ◌≤◌, ◌^◌, true, length, IfOk, MatchOption};
+    ghost use Rattle.its_plain.specs.Described.{IsFirstState};
     ghost use Rattle.its_plain.specs.Machine.{IsDescription};
     ghost use Rattle.its_types.specs.Ranges.{most_vcpus};
     ghost use Rattle.its_shared.specs.Knowing as spec;
-    ghost use Rattle.its_shared.specs.Making.{IsSharedFrom};
+    ghost use Rattle.its_shared.specs.Making.{IsFirst};
     ghost use Rattle.its_shared.specs.Ports.{Splits};
 
-    /// The root of a new machine.
-    pub fn new(alloc: Global, desc: &Desc) -> Result<Port, MakeError>
+    /// The root of the machine of one caller that the description makes, whose calls keep to these
+    /// limits.
+    pub fn new(
+        alloc: Global,
+        desc: &Desc,
+        owned: Owned,
+        limits: GuestLimits,
+    ) -> Result<Port, AllocError>
         requires description { IsDescription desc.now }
+        requires first { IsFirstState desc.now owned }
         requires some_shards { 1 ≤ desc.now.shards }
         requires most_shards { desc.now.shards ≤ 64 }
         requires stamps { desc.now.limits.stamp_last < 2 ^ 8 }
         requires places { desc.now.limits.place_last < 2 ^ 56 }
         requires one { length desc.now.translators ≡ 1 }
-        ensures { IsSharedFrom desc.now result }
+        ensures made { IfOk result (IsFirst desc.now) }
+        ensures start { IfOk result (λ k. k.view.setup.start ≡ owned) }
+        ensures limits { IfOk result (λ k. k.limits ≡ limits) }
     {
         requesters_are_apart();
-        let (machine, pass) = share(alloc, desc)?;
-        match Arc::new(alloc, machine) {
-            Ok(machine) => Ok(Port { machine, pass }),
-            Err(_) => Err(MakeError::NoMemory),
-        }
+        let (machine, pass) = share_owned(alloc, desc, owned)?;
+        let machine = Arc::new(alloc, machine)?;
+        Ok(Port {
+            machine,
+            pass,
+            limits,
+        })
     }
 
     /// Whether passes can be split off: it is the root, and there are numbers left.
@@ -67,8 +82,8 @@ impl Port {
         self.pass.number() == 0 && self.pass.made() < 1 << 32
     }
 
-    /// Another pass of the machine, split off the root. None where the machine has as many as an
-    /// `Arc` can count.
+    /// Another pass of the machine, split off the root, which keeps to the root's limits. None where
+    /// the machine has as many as an `Arc` can count.
     pub fn split(&mut self) -> Option<Port>
         requires { spec.can_split self.old ≡ true }
         ensures { MatchOption result (self.new ≡ self.old) (λ p. Splits self.old self.new p) }
@@ -77,7 +92,19 @@ impl Port {
             return None;
         };
         let pass = self.pass.split(&machine);
-        Some(Port { machine, pass })
+        Some(Port {
+            machine,
+            pass,
+            limits: self.limits,
+        })
+    }
+
+    /// How much the guest may take by its calls from now on, and by those of passes that are split
+    /// off it.
+    pub fn set_limits(&mut self, limits: GuestLimits)
+        ensures { self.new ≡ record self.old { limits = limits } }
+    {
+        self.limits = limits;
     }
 
     /// Whether there is a virtual processor of this number.

@@ -2,6 +2,7 @@
 ghost use Rattle.std.specs.Prelude.{◌≡◌, false, true};
 ghost use Rattle.its_numbers.specs.Codes as codes;
 ghost use Rattle.its_plain.specs.declared.call.Reply.TheVariants as reply;
+ghost use Rattle.its_shared.specs.Knowing.{beside};
 ghost use Rattle.its_shared.specs.Asked as asked;
 ghost use Rattle.its_shared.specs.Asked.{has_register};
 ghost use Rattle.its_shared.specs.Telling.{Tells, is_done, nothing_told, ok, value_told};
@@ -12,7 +13,7 @@ use its_numbers::RANGE;
 
 /// A read of 4 or 8 bytes of the translator's control frame (IHI 0069, section 12.19).
 pub fn read_register(port: &mut Port, offset: u32, size: u32, place: &mut u64, out: &mut u64) -> u32
-    ensures desc { port.new.desc ≡ port.old.desc }
+    ensures beside { beside port.new ≡ beside port.old }
     ensures range { asked.is_size size ≡ false → (result ≡ codes.range)
         × (port.new ≡ port.old) × (place.new ≡ place.old) × (out.new ≡ out.old) }
     ensures told { asked.is_size size ≡ true → Tells is_done value_told (asked.read_register offset
@@ -28,7 +29,7 @@ pub fn read_register(port: &mut Port, offset: u32, size: u32, place: &mut u64, o
 
 /// A write of 4 or 8 bytes of the translator's control frame.
 pub fn write_register(port: &mut Port, offset: u32, size: u32, value: u64, place: &mut u64) -> u32
-    ensures desc { port.new.desc ≡ port.old.desc }
+    ensures beside { beside port.new ≡ beside port.old }
     ensures range { asked.is_size size ≡ false → (result ≡ codes.range)
         × (port.new ≡ port.old) × (place.new ≡ place.old) }
     ensures told { asked.is_size size ≡ true → Tells is_done nothing_told (asked.write_register
@@ -51,7 +52,7 @@ pub fn read_lpi_register(
     place: &mut u64,
     out: &mut u64,
 ) -> u32
-    ensures desc { port.new.desc ≡ port.old.desc }
+    ensures beside { beside port.new ≡ beside port.old }
     ensures range { has_register port.old vcpu size ≡ false → (result ≡ codes.range)
         × (port.new ≡ port.old) × (place.new ≡ place.old) × (out.new ≡ out.old) }
     ensures told { has_register port.old vcpu size ≡ true → Tells is_done value_told
@@ -74,7 +75,7 @@ pub fn write_lpi_register(
     value: u64,
     place: &mut u64,
 ) -> u32
-    ensures desc { port.new.desc ≡ port.old.desc }
+    ensures beside { beside port.new ≡ beside port.old }
     ensures range { has_register port.old vcpu size ≡ false → (result ≡ codes.range)
         × (port.new ≡ port.old) × (place.new ≡ place.old) }
     ensures told { has_register port.old vcpu size ≡ true → Tells is_done nothing_told

@@ -1,11 +1,13 @@
 //! The calls of a pass for commands, saves and guest memory.
-ghost use Rattle.std.specs.Prelude.{◌≡◌, false, true, None, length};
+ghost use Rattle.std.specs.Prelude.{◌≡◌, ◌≢◌, false, true, None, length};
 ghost use Rattle.its_numbers.specs.Codes as codes;
+ghost use Rattle.its_numbers.specs.Limits.{no_limit};
 ghost use Rattle.its_plain.specs.Answer.{save_reply};
 ghost use Rattle.its_plain.specs.declared.call.Call.TheVariants as call;
 ghost use Rattle.its_plain.specs.declared.call.Reply.TheVariants as reply;
 ghost use Rattle.its_shared.specs.Asked as asked;
 ghost use Rattle.its_shared.specs.Asked.{is_count};
+ghost use Rattle.its_shared.specs.Limits.{StepsWithin};
 ghost use Rattle.its_shared.specs.Telling.{read_code};
 ghost use Rattle.its_shared.specs.Telling.{InPass, Tells, as_told, bytes_told, is_done, machine_of};
 ghost use Rattle.its_shared.specs.Telling.{nothing_told, save_code, save_told, step_told};
@@ -24,6 +26,7 @@ pub extern "C" fn its_pass_step(pass: &mut Pass, place: &mut u64, out: &mut Step
     ensures kept { machine_of pass.new ≡ machine_of pass.old }
     ensures told { InPass pass.old pass.new (λ k l. Tells is_done (as_told step_told) asked.step
         reply.Step k l result place.old place.new out.old out.new) }
+    ensures within { InPass pass.old pass.new (λ k l. StepsWithin k l result) }
 {
     if pass.is_empty() {
         return HANDLE;
@@ -67,6 +70,8 @@ pub extern "C" fn its_pass_write_memory(
     ensures told { InPass pass.old pass.new (λ k l. is_count bytes.now ≡ true
         → Tells write_code nothing_told (asked.write_memory address bytes.now)
         (λ r. r) k l result place.old place.new tt tt) }
+    ensures full { InPass pass.old pass.new (λ k l.
+        result ≡ codes.full → k.limits.memory ≢ no_limit) }
 {
     if pass.is_empty() {
         return HANDLE;

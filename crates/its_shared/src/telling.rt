@@ -8,8 +8,8 @@ ghost use Rattle.its_shared.specs.Telling as spec;
 use crate::answer::Answer;
 use device_port::Dma;
 use its_numbers::{
-    AckOut, BUSY, DONE, DmaOut, FAULT, NO_MEMORY, OUTSIDE, SPENT, SaveFaultOut, SignalOut, StepOut,
-    ack_out, dma_out, save_fault_out, signal_out, step_out,
+    AckOut, BUSY, DONE, DmaOut, FAULT, FULL, NO_MEMORY, OUTSIDE, SPENT, SaveFaultOut, SignalOut,
+    StepOut, ack_out, dma_out, save_fault_out, signal_out, step_out,
 };
 use its_plain::{Ack, Reply, Route, SaveFault, Signal, StepReply};
 
@@ -28,6 +28,7 @@ pub fn tell_signal(answer: Answer<Signal>, place: &mut u64, out: &mut SignalOut)
         Answer::Busy => BUSY,
         Answer::Spent => SPENT,
         Answer::NoMemory => NO_MEMORY,
+        Answer::Full => FULL,
     }
 }
 
@@ -46,6 +47,7 @@ pub fn tell_dma(answer: Answer<Dma>, route: Route, place: &mut u64, out: &mut Dm
         Answer::Busy => BUSY,
         Answer::Spent => SPENT,
         Answer::NoMemory => NO_MEMORY,
+        Answer::Full => FULL,
     }
 }
 
@@ -76,6 +78,7 @@ pub fn tell_ack(answer: Answer<Ack>, place: &mut u64, out: &mut AckOut) -> u32
         Answer::Busy => BUSY,
         Answer::Spent => SPENT,
         Answer::NoMemory => NO_MEMORY,
+        Answer::Full => FULL,
     }
 }
 
@@ -94,6 +97,7 @@ pub fn tell_value(answer: Answer<u64>, place: &mut u64, out: &mut u64) -> u32
         Answer::Busy => BUSY,
         Answer::Spent => SPENT,
         Answer::NoMemory => NO_MEMORY,
+        Answer::Full => FULL,
     }
 }
 
@@ -110,6 +114,7 @@ pub fn tell_unit(answer: Answer<()>, place: &mut u64) -> u32
         Answer::Busy => BUSY,
         Answer::Spent => SPENT,
         Answer::NoMemory => NO_MEMORY,
+        Answer::Full => FULL,
     }
 }
 
@@ -128,6 +133,7 @@ pub fn tell_step(answer: Answer<StepReply>, place: &mut u64, out: &mut StepOut) 
         Answer::Busy => BUSY,
         Answer::Spent => SPENT,
         Answer::NoMemory => NO_MEMORY,
+        Answer::Full => FULL,
     }
 }
 
@@ -144,6 +150,7 @@ pub fn tell_write(answer: Answer<Reply>, place: &mut u64) -> u32
         Answer::Busy => BUSY,
         Answer::Spent => SPENT,
         Answer::NoMemory => NO_MEMORY,
+        Answer::Full => FULL,
     }
 }
 
@@ -162,6 +169,7 @@ pub fn tell_bytes(answer: Answer<Reply>, place: &mut u64, buffer: &mut [u8]) -> 
         Answer::Busy => BUSY,
         Answer::Spent => SPENT,
         Answer::NoMemory => NO_MEMORY,
+        Answer::Full => FULL,
     }
 }
 
@@ -197,6 +205,7 @@ pub fn tell_save(
         Answer::Busy => BUSY,
         Answer::Spent => SPENT,
         Answer::NoMemory => NO_MEMORY,
+        Answer::Full => FULL,
     }
 }
 

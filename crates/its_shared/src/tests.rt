@@ -16,8 +16,8 @@ use its_numbers::{
 };
 use std::alloc::Global;
 
-// A machine of two processors, whose tables are described.
-const NUMBERS: DescriptionIn = DescriptionIn {
+/// A machine of two processors, whose tables are described.
+pub const NUMBERS: DescriptionIn = DescriptionIn {
     vcpus: 2,
     device_bits: 16,
     lpi_bits: 16,
@@ -55,8 +55,8 @@ const REQUESTERS: [RequestersIn; 1] = [RequestersIn {
     device: 7,
 }];
 
-// LPI 8192 has priority 0xa0 and is enabled.
-const FILLS: [FillIn; 1] = [FillIn {
+/// LPI 8192 has priority 0xa0 and is enabled.
+pub const FILLS: [FillIn; 1] = [FillIn {
     address: 0x8003_0000,
     length: 1,
 }];
@@ -99,17 +99,28 @@ const NO_SIGNAL: SignalOut = SignalOut {
 
 /// A machine of two processors, and what making it answers.
 pub fn shared(alloc: Global, root: &mut Pass) -> u32 {
+    shared_from(alloc, root, &NUMBERS, &FILLS, &[0xa1])
+}
+
+/// What making one answers that is described so.
+pub fn shared_from(
+    alloc: Global,
+    root: &mut Pass,
+    numbers: &DescriptionIn,
+    fills: &[FillIn],
+    bytes: &[u8],
+) -> u32 {
     let mut fault = NO_FAULT;
     its_share(
         root,
         alloc,
-        &NUMBERS,
+        numbers,
         &WINDOWS,
         &PENDING,
         &[],
         &REQUESTERS,
-        &FILLS,
-        &[0xa1],
+        fills,
+        bytes,
         &mut fault,
     )
 }

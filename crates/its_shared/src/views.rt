@@ -29,7 +29,7 @@ impl Port {
 
     /// Where an event leads.
     pub fn event(&mut self, device: u32, event: u32) -> Result<Placed<EventOut>, Unseen>
-        ensures desc { self.new.desc ≡ self.old.desc }
+        ensures beside { spec.beside self.new ≡ spec.beside self.old }
         ensures seen { Sees ⊥ (λ u x. x ≡ event_out (destination u 0 device event))
             self.old.view self.new.view result }
     {
@@ -56,7 +56,7 @@ impl Port {
         list: &mut [u32],
     ) -> Result<Placed<u64>, Unseen>
         requires { spec.has_vcpu self.old vcpu ≡ true }
-        ensures desc { self.new.desc ≡ self.old.desc }
+        ensures beside { spec.beside self.new ≡ spec.beside self.old }
         ensures seen { Sees (Unit {0}) (λ u n. ListsNumbers (pending_of u vcpu) list.old list.new n)
             self.old.view self.new.view result }
         ensures only { OnErr result (list.new ≡ list.old) }
@@ -67,7 +67,7 @@ impl Port {
     /// What the LPI registers of a virtual processor are restored from.
     pub fn stored_lpi_registers(&mut self, vcpu: u16) -> Result<Placed<RedistributorIn>, Unseen>
         requires { spec.has_vcpu self.old vcpu ≡ true }
-        ensures desc { self.new.desc ≡ self.old.desc }
+        ensures beside { spec.beside self.new ≡ spec.beside self.old }
         ensures seen { Sees ⊥ (λ u r. r ≡ stored u vcpu) self.old.view self.new.view result }
     {
         try_stored(&self.machine, &mut self.pass, Vcpu(vcpu))
@@ -75,7 +75,7 @@ impl Port {
 
     /// The tables that a save writes.
     pub fn written(&mut self, alloc: Global, list: &mut [StretchOut]) -> Result<Placed<u64>, Unseen>
-        ensures desc { self.new.desc ≡ self.old.desc }
+        ensures beside { spec.beside self.new ≡ spec.beside self.old }
         ensures seen { Sees (Unit {0}) (λ u n. ListsAll (written u) list.old list.new n)
             self.old.view self.new.view result }
         ensures only { OnErr result (list.new ≡ list.old) }
@@ -85,7 +85,7 @@ impl Port {
 
     /// The stretches of guest memory that the next step reads.
     pub fn needs(&mut self, alloc: Global, list: &mut [StretchOut]) -> Result<Placed<u64>, Unseen>
-        ensures desc { self.new.desc ≡ self.old.desc }
+        ensures beside { spec.beside self.new ≡ spec.beside self.old }
         ensures seen { Sees (Unit {0}) (λ u n. ListsAll (needed u) list.old list.new n)
             self.old.view self.new.view result }
         ensures only { OnErr result (list.new ≡ list.old) }
@@ -95,7 +95,7 @@ impl Port {
 
     /// The mapped devices from a DeviceID on.
     pub fn devices(&mut self, from: u32, list: &mut [DeviceOut]) -> Result<Placed<u64>, Unseen>
-        ensures desc { self.new.desc ≡ self.old.desc }
+        ensures beside { spec.beside self.new ≡ spec.beside self.old }
         ensures seen { Sees ⊥
             (λ u n. ListsFirst (devices_from (maps_of u 0) from) list.old list.new n)
             self.old.view self.new.view result }
@@ -111,7 +111,7 @@ impl Port {
         from: u32,
         list: &mut [MappingOut],
     ) -> Result<Placed<u64>, Unseen>
-        ensures desc { self.new.desc ≡ self.old.desc }
+        ensures beside { spec.beside self.new ≡ spec.beside self.old }
         ensures seen { Sees ⊥
             (λ u n. ListsFirst (mappings_from (maps_of u 0) device from) list.old list.new n)
             self.old.view self.new.view result }
@@ -126,7 +126,7 @@ impl Port {
         from: u32,
         list: &mut [CollectionOut],
     ) -> Result<Placed<u64>, Unseen>
-        ensures desc { self.new.desc ≡ self.old.desc }
+        ensures beside { spec.beside self.new ≡ spec.beside self.old }
         ensures seen { Sees ⊥
             (λ u n. ListsFirst (collections_from (maps_of u 0) from) list.old list.new n)
             self.old.view self.new.view result }

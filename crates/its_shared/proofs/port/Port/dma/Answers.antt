@@ -15,8 +15,8 @@ pub returns-clause-answer : goal.returns-clause-answer
 returns-clause-answer c =
     let a = c.args in
     let v = view c.self.inside.pass in
-    let w = view c.try_dma.new.pass in
-    subst (λ (k : Known). Answers (asked.dma k a.req a.address a.bytes) reply_of k.view w c.answered_if.result) c.self.view_is
-    (subst (λ (m : Machine). Answers (dma_of m.desc a.req (record { 0 = a.address }) a.bytes) reply_of v w c.answered_if.result) c.deref.ensures
-    (subst (λ (x : Answer Dma). Answers (dma_of c.deref.result.now.desc a.req (record { 0 = a.address }) a.bytes) reply_of v w x) (sym c.answered_if.ensures)
-    (of_dma c.deref.result.now.desc a.req (record { 0 = a.address }) a.bytes v w c.try_dma.result c.try_dma.ensures.answer)))
+    let w = view c.try_dma_within.new.pass in
+    subst (λ (k : Known). Answers (asked.dma k a.req a.address a.bytes) reply_of k.view w c.answered_held.result) c.self.view_is
+    (subst (λ (m : Machine). Answers (dma_of m.desc a.req (record { 0 = a.address }) a.bytes) reply_of v w c.answered_held.result) c.deref.ensures
+    (subst (λ (x : Answer Dma). Answers (dma_of c.deref.result.now.desc a.req (record { 0 = a.address }) a.bytes) reply_of v w x) (sym c.answered_held.ensures)
+    (of_dma c.deref.result.now.desc a.req (record { 0 = a.address }) a.bytes v w c.try_dma_within.result c.try_dma_within.ensures.answer)))

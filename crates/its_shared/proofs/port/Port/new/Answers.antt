@@ -8,8 +8,8 @@ use Rattle.its_shared.proofs.port.Port.new.Goals as goal
 
 pub invariant_of-result : goal.invariant_of-result
 invariant_of-result c =
-    let e = c.in_ok-machine.ensures in
-    let same = sym c.in-Ok.ensures.ok in
+    let e = c.in_ok-machine.ensures.first in
+    let same = sym c.in_ok-machine-2.ensures.ok in
     record {
       of = subst (λ (m : Machine). IsOf m c.in_ok-machine.pass) same e.of;
       free = ap (λ (v : View). v.held) e.view;
