@@ -54,6 +54,7 @@ impl Chunk {
     }
 
     /// Whether it is held.
+    #[inline(always)]
     pub fn is_held(&self) -> bool
         ensures none { result ≡ false → self.now.pages.items ≡ [] }
         ensures whole { result ≡ true → length self.now.pages.items ≡ 4096 }
@@ -99,6 +100,7 @@ impl Chunk {
     }
 
     /// Reads bytes of a page from a place on.
+    #[inline(always)]
     pub fn read(&self, page: usize, from: usize, buf: &mut [u8])
         requires page { page < 4096 }
         requires inside { from + length buf.old ≤ 65536 }
