@@ -7,7 +7,7 @@ use Rattle.guest_windows.specs.declared.frame.Frame.{Frame}
 use Rattle.guest_windows.proofs.Sparse.{length-bytes}
 
 same : (f : Frame) → (f.base, f.len) ≡ extent (window f)
-same f = ap (λ (n : ℕ). (f.base, n)) (sym (length-bytes f.len (rows f.chunks.items)))
+same f = ap (λ (n : ℕ). (f.base, n)) (sym (length-bytes f.len (rows f.groups.items)))
 
 pub all_listed : (fs : List Frame) → pairs (map listed fs) ≡ map extent (windows fs)
 all_listed [] = refl

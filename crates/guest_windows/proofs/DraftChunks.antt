@@ -135,8 +135,8 @@ zero_unheld (Some row) k x some none = ap (λ (r : List ℕ). get_or r k 0) (non
 
 -- the byte at a place, by its page
 pub in_page : (cs : List DraftChunk) (f : Frame) (k q i : ℕ) → i / 65536 ≡ q
-    → byte_laid cs f k i ≡ byte_over (own_of cs k q) (i % 65536) (get_or (page_row (rows f.chunks.items) q) (i % 65536) 0)
-in_page cs f k q i is = ap (λ (p : ℕ). byte_over (own_of cs k p) (i % 65536) (get_or (page_row (rows f.chunks.items) p) (i % 65536) 0)) is
+    → byte_laid cs f k i ≡ byte_over (own_of cs k q) (i % 65536) (get_or (page_row (rows f.groups.items) q) (i % 65536) 0)
+in_page cs f k q i is = ap (λ (p : ℕ). byte_over (own_of cs k p) (i % 65536) (get_or (page_row (rows f.groups.items) p) (i % 65536) 0)) is
 
 -- ---- where a page is
 

@@ -187,15 +187,15 @@ spliced n xs ys start bs total long fits each others =
 
 -- the byte at a place of a window, with pages laid over it
 abbrev pub byte_at_place : (ℕ → Option (List ℕ)) → Frame → ℕ → ℕ
-byte_at_place own f i = byte_over (own (i / 65536)) (i % 65536) (byte_in (rows f.chunks.items) i)
+byte_at_place own f i = byte_over (own (i / 65536)) (i % 65536) (byte_in (rows f.groups.items) i)
 
-length-window : (own : ℕ → Option (List ℕ)) (f : Frame) → length (laid_bytes own 0 (bytes_of f.len (rows f.chunks.items))) ≡ f.len
-length-window own f = length-laid own 0 (bytes_of f.len (rows f.chunks.items)) ∙ length-bytes f.len (rows f.chunks.items)
+length-window : (own : ℕ → Option (List ℕ)) (f : Frame) → length (laid_bytes own 0 (bytes_of f.len (rows f.groups.items))) ≡ f.len
+length-window own f = length-laid own 0 (bytes_of f.len (rows f.groups.items)) ∙ length-bytes f.len (rows f.groups.items)
 
 laid_at : (own : ℕ → Option (List ℕ)) (f : Frame) (i : ℕ) → i < f.len
-    → get_or (laid_bytes own 0 (bytes_of f.len (rows f.chunks.items))) i 0 ≡ byte_at_place own f i
+    → get_or (laid_bytes own 0 (bytes_of f.len (rows f.groups.items))) i 0 ≡ byte_at_place own f i
 laid_at own f i lt =
-    let rs = rows f.chunks.items in
+    let rs = rows f.groups.items in
     let e : 0 + i ≡ i = omega arith in
     get_or-laid own 0 i (bytes_of f.len rs) (omega (arith, lt, length-bytes f.len rs))
     ∙ ap (λ (n : ℕ). byte_over (own (n / 65536)) (n % 65536) (get_or (bytes_of f.len rs) i 0)) e
@@ -209,7 +209,7 @@ pub laid_written : (f : Frame) (before after : ℕ → Option (List ℕ)) (a : �
 laid_written f before after a bs it here others =
     let t = fits_frame f a (length bs) it in
     let above = t.above in let below = t.below in
-    let b = bytes_of f.len (rows f.chunks.items) in
+    let b = bytes_of f.len (rows f.groups.items) in
     ap (λ (xs : List ℕ). record { base = f.base; bytes = xs })
     (spliced f.len (laid_bytes before 0 b) (laid_bytes after 0 b) (a - f.base) bs (length-window before f) (length-window after f) (omega (arith, above, below))
     (λ k lt. laid_at after f (a - f.base + k) (omega (arith, above, below, lt)) ∙ here k lt)
@@ -217,13 +217,13 @@ laid_written f before after a bs it here others =
 
 -- a window that has the bytes that are laid
 pub laid_is : (f g : Frame) (own : ℕ → Option (List ℕ)) → g.base ≡ f.base → g.len ≡ f.len
-    → ((i : ℕ) → i < f.len → byte_in (rows g.chunks.items) i ≡ byte_at_place own f i)
+    → ((i : ℕ) → i < f.len → byte_in (rows g.groups.items) i ≡ byte_at_place own f i)
     → window g ≡ laid_window own (window f)
 laid_is f g own base len each =
-    let rs = rows g.chunks.items in
+    let rs = rows g.groups.items in
     ap (λ (b : ℕ). record { base = b; bytes = bytes_of g.len rs }) base
     ∙ ap (λ (xs : List ℕ). record { base = f.base; bytes = xs })
-    (ext_get_or 0 (bytes_of g.len rs) (laid_bytes own 0 (bytes_of f.len (rows f.chunks.items)))
+    (ext_get_or 0 (bytes_of g.len rs) (laid_bytes own 0 (bytes_of f.len (rows f.groups.items)))
     (length-bytes g.len rs ∙ len ∙ sym (length-window own f)) (λ i lt.
     let there : i < g.len = omega (arith, lt, length-bytes g.len rs) in
     let here : i < f.len = omega (arith, there, len) in

@@ -28,14 +28,14 @@ none_in_chunk rs page p none is = ap (λ (c : List (List ℕ)). get_or c (p % 40
 
 -- a window whose bytes before an address lie before those asked for, or in pages that aren't held
 pub zero_in : (f : Frame) (from start page high : ℕ) → start ≡ from - f.base → ((i : ℕ) → i < f.len → f.base + i < high → (i < start) ⊎ (i < 65536 * page))
-    → ((i : ℕ) → start / 65536 ≤ i / 65536 → i < f.len → i / 65536 < page → byte_in (rows f.chunks.items) i ≡ 0) → IsZeroIn from high (window f)
+    → ((i : ℕ) → start / 65536 ≤ i / 65536 → i < f.len → i / 65536 < page → byte_in (rows f.groups.items) i ≡ 0) → IsZeroIn from high (window f)
 zero_in f from start page high is each none a low lt e =
     let fit = fits_frame f a 1 e in
     let i : ℕ = a - f.base in
     let below : i < f.len = omega (arith, fit.above, fit.below) in
     let place : f.base + i < high = omega (arith, fit.above, lt) in
     let after : start ≤ i = omega (arith, low, is) in
-    byte_of f.len (rows f.chunks.items) i below
+    byte_of f.len (rows f.groups.items) i below
     ∙ none i (omega (arith, after)) below (elim (each i below place) [
       | inl before ↦ absurd (omega (arith, before, after))
       | inr in_page ↦ omega
@@ -44,7 +44,7 @@ zero_in f from start page high is each none a low lt e =
 
 pub has_at : (f : Frame) (a n : ℕ) → f.base ≤ a → a + n ≤ f.base + f.len → has (window f) a n ≡ true
 has_at f a n above fits =
-    let long : length (window f).bytes ≡ f.len = length-bytes f.len (rows f.chunks.items) in
+    let long : length (window f).bytes ≡ f.len = length-bytes f.len (rows f.groups.items) in
     let below : a + n ≤ f.base + length (window f).bytes = omega (arith, fits, long) in
     grind (arith, above, below)
 

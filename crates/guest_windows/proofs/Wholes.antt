@@ -124,7 +124,7 @@ same_place olds froms j d e same lt = places olds froms j same lt
     places (o ∷ os) (f ∷ fs) zero h less =
         let first : extent (window o) ≡ extent (window f) = cc in (
           ap (λ (x : ℕ × ℕ). x.0) first,
-          sym (length-bytes o.len (rows o.chunks.items)) ∙ ap (λ (x : ℕ × ℕ). x.1) first ∙ length-bytes f.len (rows f.chunks.items),
+          sym (length-bytes o.len (rows o.groups.items)) ∙ ap (λ (x : ℕ × ℕ). x.1) first ∙ length-bytes f.len (rows f.groups.items),
         )
     places (o ∷ os) (f ∷ fs) (suc i) h less =
         let rest : map extent (windows os) ≡ map extent (windows fs) = cc in

@@ -76,7 +76,7 @@ laid chunks windows = laid_from (own_by chunks) 0 windows
 
 -- the byte at place i of a window
 abbrev pub byte_laid : List DraftChunk → Frame → ℕ → ℕ → ℕ
-byte_laid cs f window i = byte_over (own_of cs window (i / 65536)) (i % 65536) (byte_in (rows f.chunks.items) i)
+byte_laid cs f window i = byte_over (own_of cs window (i / 65536)) (i % 65536) (byte_in (rows f.groups.items) i)
 
 -- the first chunk that has a page, counted from i
 abbrev pub own_place : ℕ → List DraftChunk → ℕ → ℕ → Option ℕ

@@ -7,6 +7,7 @@ use crate::chunk::{CHUNK, PAGES};
 use crate::draft::Draft;
 use crate::draft_chunk::DraftChunk;
 use crate::frame::Frame;
+use crate::group::CHUNKS;
 use crate::memory::Memory;
 use crate::page::Page;
 use std::mem::swap;
@@ -36,6 +37,7 @@ impl Frame {
             return;
         }
         let first = chunk.at * PAGES;
+        let _ = self.hold_group_with(first, chunk.group);
         let _ = self.hold_chunk_with(first, chunk.room);
         let mut laid = chunk.laid;
         self.adopt_pages(first, &chunk.numbers, &mut laid);
@@ -47,13 +49,13 @@ impl Frame {
         requires whole { first % 4096 ≡ 0 }
         requires count { length numbers.now ≡ 4096 }
         requires numbered { IsNumbering numbers.now (length laid.old) }
-        requires held { length (chunk_row (rows self.old.chunks.items) first) ≡ 4096 }
+        requires held { length (chunk_row (rows self.old.groups.items) first) ≡ 4096 }
         ensures here { (i : ℕ) → i < self.old.len → i / 65536 / 4096 ≡ first / 4096
-            → byte_in (rows self.new.chunks.items) i
+            → byte_in (rows self.new.groups.items) i
             ≡ byte_over (slice_index_or (own_rows numbers.now laid.old) (i / 65536 % 4096) None)
-            (i % 65536) (byte_in (rows self.old.chunks.items) i) }
+            (i % 65536) (byte_in (rows self.old.groups.items) i) }
         ensures others { (i : ℕ) → i / 65536 / 4096 ≢ first / 4096
-            → byte_in (rows self.new.chunks.items) i ≡ byte_in (rows self.old.chunks.items) i }
+            → byte_in (rows self.new.groups.items) i ≡ byte_in (rows self.old.groups.items) i }
         ensures base { self.new.base ≡ self.old.base }
         ensures len { self.new.len ≡ self.old.len }
     {
@@ -67,17 +69,17 @@ impl Frame {
     fn adopt_page(&mut self, page: u64, number: u16, laid: &mut [Page])
         requires low { page < 2 ^ 40 }
         requires number { number ≤ length laid.old }
-        requires held { length (chunk_row (rows self.old.chunks.items) page) ≡ 4096 }
+        requires held { length (chunk_row (rows self.old.groups.items) page) ≡ 4096 }
         ensures here { (i : ℕ) → i < self.old.len → i / 65536 ≡ page
-            → byte_in (rows self.new.chunks.items) i
+            → byte_in (rows self.new.groups.items) i
             ≡ byte_over (numbered (page_rows laid.old) number) (i % 65536)
-            (byte_in (rows self.old.chunks.items) i) }
+            (byte_in (rows self.old.groups.items) i) }
         ensures others { (i : ℕ) → i / 65536 ≢ page
-            → byte_in (rows self.new.chunks.items) i ≡ byte_in (rows self.old.chunks.items) i }
+            → byte_in (rows self.new.groups.items) i ≡ byte_in (rows self.old.groups.items) i }
         ensures left { (k : ℕ) → number ≢ k + 1 → slice_index_or (page_rows laid.new) k []
             ≡ slice_index_or (page_rows laid.old) k [] }
         ensures count { length laid.new ≡ length laid.old }
-        ensures chunk { length (chunk_row (rows self.new.chunks.items) page) ≡ 4096 }
+        ensures chunk { length (chunk_row (rows self.new.groups.items) page) ≡ 4096 }
         ensures base { self.new.base ≡ self.old.base }
         ensures len { self.new.len ≡ self.old.len }
     {
@@ -89,15 +91,16 @@ impl Frame {
     // Exchanges a page of a chunk that is held with another.
     fn exchange_page(&mut self, page: u64, fresh: &mut Page)
         requires inside { 65536 * page < self.old.len }
-        requires held { length (chunk_row (rows self.old.chunks.items) page) ≡ 4096 }
-        ensures here { page_row (rows self.new.chunks.items) page ≡ fresh.old.bytes.items }
-        ensures others { (p : ℕ) → p ≢ page → page_row (rows self.new.chunks.items) p
-            ≡ page_row (rows self.old.chunks.items) p }
-        ensures chunk { length (chunk_row (rows self.new.chunks.items) page) ≡ 4096 }
+        requires held { length (chunk_row (rows self.old.groups.items) page) ≡ 4096 }
+        ensures here { page_row (rows self.new.groups.items) page ≡ fresh.old.bytes.items }
+        ensures others { (p : ℕ) → p ≢ page → page_row (rows self.new.groups.items) p
+            ≡ page_row (rows self.old.groups.items) p }
+        ensures chunk { length (chunk_row (rows self.new.groups.items) page) ≡ 4096 }
         ensures base { self.new.base ≡ self.old.base }
         ensures len { self.new.len ≡ self.old.len }
     {
-        let chunk = &mut self.chunks[(page / PAGES) as usize];
+        let group = &mut self.groups[(page / PAGES / CHUNKS) as usize];
+        let chunk = &mut group.chunks[(page / PAGES % CHUNKS) as usize];
         swap(&mut chunk.pages[(page % PAGES) as usize], fresh);
     }
 }

@@ -2,8 +2,10 @@
 ghost use Rattle.std.specs.Prelude.{◌≡◌, ℕ, IfOk, length, slice_index};
 ghost use Rattle.std.specs.Vec.{vec_len};
 ghost use Rattle.guest_windows.specs.Chunks.{page_rows, IsBlankChunk, IsNumbering};
+ghost use Rattle.guest_windows.specs.Groups.{group_rows, IsBlankGroup};
 
 use crate::chunk::{Chunk, PAGES};
+use crate::group::Group;
 use crate::page::Page;
 use std::alloc::{AllocError, Global};
 
@@ -20,9 +22,12 @@ pub struct DraftChunk {
     pub laid: Vec<Page>,
     /// For a memory that doesn't hold the chunk.
     pub room: Chunk,
+    /// For a memory that doesn't hold the group that the chunk lies in.
+    pub group: Group,
     ghost sized: { vec_len numbers ≡ 4096 },
     ghost numbered: { IsNumbering numbers.items (vec_len laid) },
     ghost blank: { IsBlankChunk (page_rows room.pages.items) },
+    ghost empty: { IsBlankGroup (group_rows group.chunks.items) },
 }
 
 impl DraftChunk {
@@ -42,12 +47,14 @@ impl DraftChunk {
     {
         let numbers = no_numbers(alloc, PAGES as usize)?;
         let room = Chunk::blank(alloc)?;
+        let group = Group::blank(alloc)?;
         Ok(DraftChunk {
             window,
             at,
             numbers,
             laid: Vec::new(alloc),
             room,
+            group,
         })
     }
 

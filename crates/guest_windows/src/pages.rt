@@ -14,6 +14,7 @@ use crate::chunk::{Chunk, PAGES};
 use crate::errors::Outside;
 use crate::extents::END;
 use crate::frame::Frame;
+use crate::group::{CHUNKS, Group};
 use crate::memory::{Memory, place};
 use crate::page::{PAGE, Page};
 use its_types::Addr;
@@ -54,7 +55,7 @@ impl Frame {
     ghost use Rattle.guest_windows.specs.Windows.{has, put};
     ghost use Rattle.guest_windows.specs.Zeros.{IsZeroIn};
     ghost use Rattle.guest_windows.specs.Fields.{window, IsHeldIn, NoneHeldIn};
-    ghost use Rattle.guest_windows.specs.Pages.{rows, byte_in, chunk_row, page_row};
+    ghost use Rattle.guest_windows.specs.Pages.{rows, byte_in, chunk_row, group_row, page_row};
 
     // Makes the bytes at an address zero, and gives back the pages that lie wholly inside.
     fn forget(&mut self, alloc: Global, addr: Addr, len: u64)
@@ -68,9 +69,9 @@ impl Frame {
     fn forget_at(&mut self, alloc: Global, start: u64, len: u64)
         requires { start + len ≤ self.old.len }
         ensures here { (i : ℕ) → start ≤ i → i < start + len
-            → byte_in (rows self.new.chunks.items) i ≡ 0 }
+            → byte_in (rows self.new.groups.items) i ≡ 0 }
         ensures others { (i : ℕ) → i < self.old.len → (i < start) ⊎ (start + len ≤ i)
-            → byte_in (rows self.new.chunks.items) i ≡ byte_in (rows self.old.chunks.items) i }
+            → byte_in (rows self.new.groups.items) i ≡ byte_in (rows self.old.groups.items) i }
         ensures base { self.new.base ≡ self.old.base }
         ensures len { self.new.len ≡ self.old.len }
     {
@@ -84,8 +85,8 @@ impl Frame {
         }
     }
 
-    // Makes the bytes zero that lie in a page, or in its chunk, if that isn't held or can be given
-    // back. Answers the next page.
+    // Makes the bytes zero that lie in a page, or in its chunk or group, if that isn't held or can
+    // be given back. Answers the next page.
     fn forget_from(&mut self, alloc: Global, page: u64, start: u64, end: u64) -> u64
         requires first { start < 65536 * page + 65536 }
         requires last { 65536 * page < end }
@@ -93,11 +94,41 @@ impl Frame {
         requires inside { end ≤ self.old.len }
         ensures further { page < result }
         ensures here { (i : ℕ) → page ≤ i / 65536 → i / 65536 < result → start ≤ i → i < end
-            → byte_in (rows self.new.chunks.items) i ≡ 0 }
-        ensures before { (i : ℕ) → i / 65536 < page → byte_in (rows self.new.chunks.items) i
-            ≡ byte_in (rows self.old.chunks.items) i }
+            → byte_in (rows self.new.groups.items) i ≡ 0 }
+        ensures before { (i : ℕ) → i / 65536 < page → byte_in (rows self.new.groups.items) i
+            ≡ byte_in (rows self.old.groups.items) i }
         ensures others { (i : ℕ) → i < self.old.len → (i < start) ⊎ (end ≤ i)
-            → byte_in (rows self.new.chunks.items) i ≡ byte_in (rows self.old.chunks.items) i }
+            → byte_in (rows self.new.groups.items) i ≡ byte_in (rows self.old.groups.items) i }
+        ensures base { self.new.base ≡ self.old.base }
+        ensures len { self.new.len ≡ self.old.len }
+    {
+        let next = (page / PAGES / CHUNKS + 1) * CHUNKS * PAGES;
+        if !self.groups[(page / PAGES / CHUNKS) as usize].is_held() {
+            return next;
+        }
+        let whole = end == self.len || 65_536 * next <= end;
+        if page % (PAGES * CHUNKS) == 0 && start <= 65_536 * page && whole {
+            self.groups[(page / PAGES / CHUNKS) as usize] = Group::none(alloc);
+            return next;
+        }
+        self.forget_in_group(alloc, page, start, end)
+    }
+
+    // Makes the bytes zero that lie in a page of a group that is held, or in its chunk, if that
+    // isn't held or can be given back. Answers the next page.
+    fn forget_in_group(&mut self, alloc: Global, page: u64, start: u64, end: u64) -> u64
+        requires first { start < 65536 * page + 65536 }
+        requires last { 65536 * page < end }
+        requires some { start < end }
+        requires inside { end ≤ self.old.len }
+        requires group { length (group_row self.old.groups.items page) ≡ 1024 }
+        ensures further { page < result }
+        ensures here { (i : ℕ) → page ≤ i / 65536 → i / 65536 < result → start ≤ i → i < end
+            → byte_in (rows self.new.groups.items) i ≡ 0 }
+        ensures before { (i : ℕ) → i / 65536 < page → byte_in (rows self.new.groups.items) i
+            ≡ byte_in (rows self.old.groups.items) i }
+        ensures others { (i : ℕ) → i < self.old.len → (i < start) ⊎ (end ≤ i)
+            → byte_in (rows self.new.groups.items) i ≡ byte_in (rows self.old.groups.items) i }
         ensures base { self.new.base ≡ self.old.base }
         ensures len { self.new.len ≡ self.old.len }
     {
@@ -107,7 +138,8 @@ impl Frame {
         }
         let whole = end == self.len || 65_536 * next <= end;
         if page % PAGES == 0 && start <= 65_536 * page && whole {
-            self.chunks[(page / PAGES) as usize] = Chunk::none(alloc);
+            let group = &mut self.groups[(page / PAGES / CHUNKS) as usize];
+            group.chunks[(page / PAGES % CHUNKS) as usize] = Chunk::none(alloc);
             return next;
         }
         self.forget_page(alloc, page, start, end);
@@ -120,18 +152,19 @@ impl Frame {
         requires last { 65536 * page < end }
         requires some { start < end }
         requires inside { end ≤ self.old.len }
-        requires held { length (chunk_row (rows self.old.chunks.items) page) ≡ 4096 }
+        requires held { length (chunk_row (rows self.old.groups.items) page) ≡ 4096 }
         ensures here { (i : ℕ) → i / 65536 ≡ page → start ≤ i → i < end
-            → byte_in (rows self.new.chunks.items) i ≡ 0 }
+            → byte_in (rows self.new.groups.items) i ≡ 0 }
         ensures others { (i : ℕ) → i < self.old.len
             → (i / 65536 ≢ page) ⊎ ((i < start) ⊎ (end ≤ i))
-            → byte_in (rows self.new.chunks.items) i ≡ byte_in (rows self.old.chunks.items) i }
+            → byte_in (rows self.new.groups.items) i ≡ byte_in (rows self.old.groups.items) i }
         ensures base { self.new.base ≡ self.old.base }
         ensures len { self.new.len ≡ self.old.len }
     {
         let low = start.saturating_sub(65_536 * page);
         let high = self.end_in(page, end);
-        let chunk = &mut self.chunks[(page / PAGES) as usize];
+        let group = &mut self.groups[(page / PAGES / CHUNKS) as usize];
+        let chunk = &mut group.chunks[(page / PAGES % CHUNKS) as usize];
         chunk.pages[(page % PAGES) as usize].forget(alloc, low as usize, high as usize);
     }
 
@@ -157,13 +190,13 @@ impl Frame {
     // The first page from this one on that is held, or how many the bytes lie in.
     fn next_held(&self, from: u64) -> u64
         ensures zero { (i : ℕ) → from ≤ i / 65536 → i < self.now.len → i / 65536 < result
-            → byte_in (rows self.now.chunks.items) i ≡ 0 }
+            → byte_in (rows self.now.groups.items) i ≡ 0 }
         ensures bound { 65536 * result < self.now.len + 65536 }
         ensures from { (from ≤ result) ⊎ (self.now.len ≤ 65536 * result) }
         ensures held { 65536 * result < self.now.len
-            → length (page_row (rows self.now.chunks.items) result) ≡ 65536 }
+            → length (page_row (rows self.now.groups.items) result) ≡ 65536 }
         ensures skipped { (page : ℕ) → from ≤ page → page < result
-            → page_row (rows self.now.chunks.items) page ≡ [] }
+            → page_row (rows self.now.groups.items) page ≡ [] }
     {
         let count = self.len.div_ceil(65_536);
         let mut page = from;
@@ -177,17 +210,20 @@ impl Frame {
         count
     }
 
-    // This page, if it is held. If not, the next, or the first of the next chunk.
+    // This page, if it is held. If not, the next, or the first of the next chunk or group.
     fn next_from(&self, page: u64) -> u64
         requires { 65536 * page < self.now.len }
         ensures order { page ≤ result }
         ensures zero { (i : ℕ) → page ≤ i / 65536 → i / 65536 < result
-            → byte_in (rows self.now.chunks.items) i ≡ 0 }
+            → byte_in (rows self.now.groups.items) i ≡ 0 }
         ensures held { result ≡ page
-            → length (page_row (rows self.now.chunks.items) page) ≡ 65536 }
+            → length (page_row (rows self.now.groups.items) page) ≡ 65536 }
         ensures skipped { (p : ℕ) → page ≤ p → p < result
-            → page_row (rows self.now.chunks.items) p ≡ [] }
+            → page_row (rows self.now.groups.items) p ≡ [] }
     {
+        if !self.groups[(page / PAGES / CHUNKS) as usize].is_held() {
+            return (page / PAGES / CHUNKS + 1) * CHUNKS * PAGES;
+        }
         let chunk = self.chunk_of(page);
         if !chunk.is_held() {
             (page / PAGES + 1) * PAGES

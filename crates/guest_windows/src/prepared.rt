@@ -7,6 +7,7 @@ ghost use Rattle.guest_windows.specs.Windows.{write_at};
 use crate::chunk::{Chunk, PAGES};
 use crate::errors::Outside;
 use crate::frame::Frame;
+use crate::group::{CHUNKS, Group};
 use crate::memory::{Memory, place};
 use crate::page::Page;
 use its_types::Addr;
@@ -14,9 +15,11 @@ use std::alloc::{AllocError, Global};
 use std::marker::Model;
 use std::mem::replace;
 
-// A page of zeros, and a chunk for it to lie in. Either may be missing: seen as whether none is.
+// A page of zeros, a chunk for it to lie in, and a group for that. Each may be missing: seen as
+// whether none is.
 #[derive(Drop)]
 struct Room {
+    group: Option<Group>,
     chunk: Option<Chunk>,
     page: Option<Page>,
 }
@@ -25,12 +28,14 @@ impl Model for Room {
     ghost use Rattle.std.specs.Prelude.{Bool, ◌&&◌, is_some, IfSome};
     ghost use Rattle.guest_windows.specs.Pages.{IsZeroPage};
     ghost use Rattle.guest_windows.specs.Chunks.{IsBlankChunk, page_rows};
+    ghost use Rattle.guest_windows.specs.Groups.{IsBlankGroup, group_rows};
 
     ghost Value = { Bool };
 
-    ghost view = { λ r. is_some r.chunk && is_some r.page };
+    ghost view = { λ r. is_some r.group && is_some r.chunk && is_some r.page };
 
-    ghost invariant = { λ r. IfSome r.chunk (λ c. IsBlankChunk (page_rows c.pages.items))
+    ghost invariant = { λ r. IfSome r.group (λ g. IsBlankGroup (group_rows g.chunks.items))
+        × IfSome r.chunk (λ c. IsBlankChunk (page_rows c.pages.items))
         × IfSome r.page (λ p. IsZeroPage p.bytes.items) };
 }
 
@@ -41,6 +46,7 @@ impl Room {
         ensures { result ≡ false }
     {
         Room {
+            group: None,
             chunk: None,
             page: None,
         }
@@ -50,6 +56,9 @@ impl Room {
     fn fill(&mut self, alloc: Global) -> Result<(), AllocError>
         ensures { OnOk result (self.new ≡ true) }
     {
+        if self.group.is_none() {
+            self.group = Some(Group::blank(alloc)?);
+        }
         if self.chunk.is_none() {
             self.chunk = Some(Chunk::blank(alloc)?);
         }
@@ -60,8 +69,8 @@ impl Room {
     }
 }
 
-/// Two pages of zeros with their chunks, for a write of at most 65,536 bytes. Some may be missing:
-/// it is seen as whether none is.
+/// Two pages of zeros with chunks and groups for them, for a write of at most 65,536 bytes. Some
+/// may be missing: it is seen as whether none is.
 #[derive(Drop)]
 pub struct Spare {
     first: Room,
@@ -112,8 +121,9 @@ impl Frame {
     ghost use Rattle.guest_windows.specs.Windows.{has, put};
     ghost use Rattle.guest_windows.specs.Fields.{window};
     ghost use Rattle.guest_windows.specs.Pages.{rows, row_at, AreHeld, StillHeld, SameBytes};
-    ghost use Rattle.guest_windows.specs.Pages.{IsZeroPage, chunk_row};
+    ghost use Rattle.guest_windows.specs.Pages.{IsZeroPage, chunk_row, group_row};
     ghost use Rattle.guest_windows.specs.Chunks.{IsBlankChunk, page_rows};
+    ghost use Rattle.guest_windows.specs.Groups.{IsBlankGroup, group_rows};
     ghost use Rattle.guest_windows.specs.Pages.{SamePages};
 
     // Writes the bytes at an address. Answers what is left of the spare pages.
@@ -135,7 +145,7 @@ impl Frame {
         requires few { len ≤ 65536 }
         requires spare { spare ≡ true }
         ensures same { window self.new ≡ window self.old }
-        ensures held { AreHeld (rows self.new.chunks.items) (addr.0 - self.new.base) len }
+        ensures held { AreHeld (rows self.new.groups.items) (addr.0 - self.new.base) len }
     {
         if len == 0 {
             return spare;
@@ -147,52 +157,76 @@ impl Frame {
         Spare { first, last }
     }
 
-    // Holds a page and its chunk: those of this room that weren't held. Answers what is left.
+    // Holds a page with its chunk and group: those of this room that weren't held. Answers what is
+    // left.
     fn hold_page_with(&mut self, page: u64, room: Room) -> Room
         requires inside { 65536 * page < self.old.len }
         requires room { room ≡ true }
-        ensures same { SameBytes (rows self.old.chunks.items) (rows self.new.chunks.items) }
-        ensures still { StillHeld (rows self.old.chunks.items) (rows self.new.chunks.items) }
+        ensures same { SameBytes (rows self.old.groups.items) (rows self.new.groups.items) }
+        ensures still { StillHeld (rows self.old.groups.items) (rows self.new.groups.items) }
         ensures held { (i : ℕ) → i / 65536 ≡ page
-            → length (row_at (rows self.new.chunks.items) i) ≡ 65536 }
+            → length (row_at (rows self.new.groups.items) i) ≡ 65536 }
         ensures base { self.new.base ≡ self.old.base }
         ensures len { self.new.len ≡ self.old.len }
     {
-        let Room { chunk, page: fresh } = room;
+        let Room {
+            group,
+            chunk,
+            page: fresh,
+        } = room;
+        let Some(group) = group else { unreachable!() };
         let Some(chunk) = chunk else { unreachable!() };
         let Some(fresh) = fresh else { unreachable!() };
+        let group = self.hold_group_with(page, group);
         let chunk = self.hold_chunk_with(page, chunk);
         let page = self.hold_in_chunk(page, fresh);
-        Room { chunk, page }
+        Room { group, chunk, page }
     }
 
-    /// Holds the chunk that a page lies in: this one, if it isn't held. Answers it otherwise.
-    pub(crate) fn hold_chunk_with(&mut self, page: u64, fresh: Chunk) -> Option<Chunk>
+    /// Holds the group that a page lies in: this one, if it isn't held. Answers it otherwise.
+    pub(crate) fn hold_group_with(&mut self, page: u64, fresh: Group) -> Option<Group>
         requires inside { 65536 * page < self.old.len }
-        requires blank { IsBlankChunk (page_rows fresh.pages.items) }
-        ensures left { IfSome result (λ c. IsBlankChunk (page_rows c.pages.items)) }
-        ensures same { SamePages (rows self.old.chunks.items) (rows self.new.chunks.items) }
-        ensures held { length (chunk_row (rows self.new.chunks.items) page) ≡ 4096 }
+        requires blank { IsBlankGroup (group_rows fresh.chunks.items) }
+        ensures left { IfSome result (λ g. IsBlankGroup (group_rows g.chunks.items)) }
+        ensures same { SamePages (rows self.old.groups.items) (rows self.new.groups.items) }
+        ensures held { length (group_row self.new.groups.items page) ≡ 1024 }
         ensures base { self.new.base ≡ self.old.base }
         ensures len { self.new.len ≡ self.old.len }
     {
-        self.chunks[(page / PAGES) as usize].hold_with(fresh)
+        self.groups[(page / PAGES / CHUNKS) as usize].hold_with(fresh)
+    }
+
+    /// Holds the chunk that a page lies in, of a group that is held: this one, if it isn't held.
+    /// Answers it otherwise.
+    pub(crate) fn hold_chunk_with(&mut self, page: u64, fresh: Chunk) -> Option<Chunk>
+        requires inside { 65536 * page < self.old.len }
+        requires group { length (group_row self.old.groups.items page) ≡ 1024 }
+        requires blank { IsBlankChunk (page_rows fresh.pages.items) }
+        ensures left { IfSome result (λ c. IsBlankChunk (page_rows c.pages.items)) }
+        ensures same { SamePages (rows self.old.groups.items) (rows self.new.groups.items) }
+        ensures held { length (chunk_row (rows self.new.groups.items) page) ≡ 4096 }
+        ensures base { self.new.base ≡ self.old.base }
+        ensures len { self.new.len ≡ self.old.len }
+    {
+        let group = &mut self.groups[(page / PAGES / CHUNKS) as usize];
+        group.chunks[(page / PAGES % CHUNKS) as usize].hold_with(fresh)
     }
 
     // Holds a page of a chunk that is held: this one, if it isn't held. Answers it otherwise.
     fn hold_in_chunk(&mut self, page: u64, fresh: Page) -> Option<Page>
         requires inside { 65536 * page < self.old.len }
-        requires chunk { length (chunk_row (rows self.old.chunks.items) page) ≡ 4096 }
+        requires chunk { length (chunk_row (rows self.old.groups.items) page) ≡ 4096 }
         requires zero { IsZeroPage fresh.bytes.items }
         ensures left { IfSome result (λ p. IsZeroPage p.bytes.items) }
-        ensures same { SameBytes (rows self.old.chunks.items) (rows self.new.chunks.items) }
-        ensures still { StillHeld (rows self.old.chunks.items) (rows self.new.chunks.items) }
+        ensures same { SameBytes (rows self.old.groups.items) (rows self.new.groups.items) }
+        ensures still { StillHeld (rows self.old.groups.items) (rows self.new.groups.items) }
         ensures held { (i : ℕ) → i / 65536 ≡ page
-            → length (row_at (rows self.new.chunks.items) i) ≡ 65536 }
+            → length (row_at (rows self.new.groups.items) i) ≡ 65536 }
         ensures base { self.new.base ≡ self.old.base }
         ensures len { self.new.len ≡ self.old.len }
     {
-        let chunk = &mut self.chunks[(page / PAGES) as usize];
+        let group = &mut self.groups[(page / PAGES / CHUNKS) as usize];
+        let chunk = &mut group.chunks[(page / PAGES % CHUNKS) as usize];
         chunk.pages[(page % PAGES) as usize].hold_with(fresh)
     }
 }
@@ -222,14 +256,15 @@ impl Memory {
     ghost use Rattle.std.specs.Prelude.{length};
     ghost use Rattle.guest_windows.specs.Windows.{write_at};
 
-    /// Holds the pages that a write may need, and their chunks.
+    /// Holds the pages that a write may need, with chunks and groups for them.
     pub fn prepare(&self, spare: &mut Spare) -> Result<(), AllocError>
         ensures { OnOk result (spare.new ≡ true) }
     {
         spare.fill(self.alloc)
     }
 
-    /// Writes all the bytes, or none. Takes no memory but the spare pages and chunks.
+    /// Writes all the bytes, or none. Takes no memory but the spare pages, with
+    /// chunks and groups.
     pub fn write_prepared(
         &mut self,
         spare: &mut Spare,

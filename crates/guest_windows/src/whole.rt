@@ -9,6 +9,7 @@ ghost use Rattle.guest_windows.specs.Fields.{windows, AllWhole};
 use crate::chunk::{Chunk, PAGES};
 use crate::errors::NewError;
 use crate::frame::{Frame, within_page};
+use crate::group::CHUNKS;
 use crate::memory::Memory;
 use crate::page::Page;
 use its_types::Addr;
@@ -172,15 +173,16 @@ impl Frame {
     // Makes the bytes of a page zero.
     fn clear_page(&mut self, page: u64)
         requires inside { 65536 * page < self.old.len }
-        requires held { length (page_row (rows self.old.chunks.items) page) ≡ 65536 }
-        ensures here { (i : ℕ) → i / 65536 ≡ page → byte_in (rows self.new.chunks.items) i ≡ 0 }
+        requires held { length (page_row (rows self.old.groups.items) page) ≡ 65536 }
+        ensures here { (i : ℕ) → i / 65536 ≡ page → byte_in (rows self.new.groups.items) i ≡ 0 }
         ensures others { (i : ℕ) → i / 65536 ≢ page
-            → byte_in (rows self.new.chunks.items) i ≡ byte_in (rows self.old.chunks.items) i }
-        ensures still { StillHeld (rows self.old.chunks.items) (rows self.new.chunks.items) }
+            → byte_in (rows self.new.groups.items) i ≡ byte_in (rows self.old.groups.items) i }
+        ensures still { StillHeld (rows self.old.groups.items) (rows self.new.groups.items) }
         ensures base { self.new.base ≡ self.old.base }
         ensures len { self.new.len ≡ self.old.len }
     {
-        let chunk = &mut self.chunks[(page / PAGES) as usize];
+        let group = &mut self.groups[(page / PAGES / CHUNKS) as usize];
+        let chunk = &mut group.chunks[(page / PAGES % CHUNKS) as usize];
         chunk.pages[(page % PAGES) as usize].clear();
     }
 
@@ -219,12 +221,12 @@ impl Frame {
     fn copy_at(&mut self, from: &Frame, start: u64, len: u64)
         requires fits { start + len ≤ self.old.len }
         requires same { self.old.len ≡ from.now.len }
-        requires held { AreHeld (rows self.old.chunks.items) start len }
+        requires held { AreHeld (rows self.old.groups.items) start len }
         ensures here { (i : ℕ) → start ≤ i → i < start + len
-            → byte_in (rows self.new.chunks.items) i ≡ byte_in (rows from.now.chunks.items) i }
+            → byte_in (rows self.new.groups.items) i ≡ byte_in (rows from.now.groups.items) i }
         ensures others { (i : ℕ) → (i < start) ⊎ (start + len ≤ i)
-            → byte_in (rows self.new.chunks.items) i ≡ byte_in (rows self.old.chunks.items) i }
-        ensures still { StillHeld (rows self.old.chunks.items) (rows self.new.chunks.items) }
+            → byte_in (rows self.new.groups.items) i ≡ byte_in (rows self.old.groups.items) i }
+        ensures still { StillHeld (rows self.old.groups.items) (rows self.new.groups.items) }
         ensures base { self.new.base ≡ self.old.base }
         ensures len { self.new.len ≡ self.old.len }
     {
@@ -242,19 +244,20 @@ impl Frame {
         requires inside { at + count ≤ self.old.len }
         requires same { self.old.len ≡ from.now.len }
         requires page { at % 65536 + count ≤ 65536 }
-        requires held { length (row_at (rows self.old.chunks.items) at) ≡ 65536 }
+        requires held { length (row_at (rows self.old.groups.items) at) ≡ 65536 }
         requires some { 0 < count }
         ensures here { (i : ℕ) → at ≤ i → i < at + count
-            → byte_in (rows self.new.chunks.items) i ≡ byte_in (rows from.now.chunks.items) i }
+            → byte_in (rows self.new.groups.items) i ≡ byte_in (rows from.now.groups.items) i }
         ensures others { (i : ℕ) → (i < at) ⊎ (at + count ≤ i)
-            → byte_in (rows self.new.chunks.items) i ≡ byte_in (rows self.old.chunks.items) i }
-        ensures still { StillHeld (rows self.old.chunks.items) (rows self.new.chunks.items) }
+            → byte_in (rows self.new.groups.items) i ≡ byte_in (rows self.old.groups.items) i }
+        ensures still { StillHeld (rows self.old.groups.items) (rows self.new.groups.items) }
         ensures base { self.new.base ≡ self.old.base }
         ensures len { self.new.len ≡ self.old.len }
     {
         let page = at / 65_536;
         let other = from.chunk_of(page);
-        let chunk = &mut self.chunks[(page / PAGES) as usize];
+        let group = &mut self.groups[(page / PAGES / CHUNKS) as usize];
+        let chunk = &mut group.chunks[(page / PAGES % CHUNKS) as usize];
         let index = (page % PAGES) as usize;
         chunk.pages[index].take_from(other, index, (at % 65_536) as usize, count as usize);
     }

@@ -181,3 +181,42 @@ fn a_draft_is_laid_over_memory(rt: HostRuntime) -> Result<(), Fail> {
     );
     Ok(())
 }
+
+// A window of 2^48 bytes, which has 1,024 groups of 256 GiB.
+const WIDE: [(Addr, u64); 1] = [(Addr(0x1_0000_0000), 1 << 48)];
+
+// What is written at its ends, and read from there and in between.
+const FAR: [Act; 8] = [
+    Act::WritesWord(0x1_0000_0000, 5),
+    Act::WritesWord(0x1_0000_ffff_fff8, 6),
+    Act::Word(0x1_0000_0000, Ok(5)),
+    Act::Word(0x1_0000_ffff_fff8, Ok(6)),
+    Act::Word(0x1_0001_0000, Ok(0)),
+    Act::Word(0x8000_0000_0000, Ok(0)),
+    Act::Byte(0x1_0000_ffff_ffff, Ok(0)),
+    Act::Byte(0x1_0001_0000_0000, Err(Outside(Addr(0x1_0001_0000_0000)))),
+];
+
+// The same is read of a copy.
+const FAR_COPIED: [Act; 3] = [
+    Act::Word(0x1_0000_0000, Ok(5)),
+    Act::Word(0x1_0000_ffff_fff8, Ok(6)),
+    Act::Word(0x8000_0000_0000, Ok(0)),
+];
+
+#[test]
+fn both_ends_of_a_wide_window_are_held(rt: HostRuntime) -> Result<(), Fail> {
+    let mut memory = Memory::new(rt.alloc(), &WIDE)?;
+    let empty = held(&memory);
+    let written = play(&mut memory, &FAR);
+    let mut copy = memory.copy(rt.alloc())?;
+    let both = held(&copy);
+    copy.forget(Addr(0x1_0000_0000), 1 << 47)?;
+    let last = held(&copy);
+    let copied = play(&mut memory, &FAR_COPIED);
+    assert_eq!(rt; [written, copied], [8, 3]);
+    assert_eq!(rt; empty, [0; 4]);
+    assert_eq!(rt; both, [0x1_0000_0000, 0x1_0000_ffff_0000, 0, 0]);
+    assert_eq!(rt; last, [0x1_0000_ffff_0000, 0, 0, 0]);
+    Ok(())
+}

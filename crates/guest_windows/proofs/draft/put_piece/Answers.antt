@@ -38,7 +38,7 @@ returns-clause-here c k lt =
     let is : (at + k) / 65536 ≡ q = omega (arith, lt, c.requires.page) in
     let m : (at + k) % 65536 ≡ at % 65536 + k = omega (arith, lt, c.requires.page) in
     in_page _ f w q (at + k) is
-    ∙ ap (λ (o : Option (List ℕ)). byte_over o ((at + k) % 65536) (get_or (page_row (rows f.chunks.items) q) ((at + k) % 65536) 0)) done.here
+    ∙ ap (λ (o : Option (List ℕ)). byte_over o ((at + k) % 65536) (get_or (page_row (rows f.groups.items) q) ((at + k) % 65536) 0)) done.here
     ∙ ap (λ (n : ℕ). get_or put.put.0 n 0) m ∙ put.put.2 k lt
 
 pub returns-clause-others : goal.returns-clause-others
@@ -57,7 +57,7 @@ returns-clause-others c i out =
     elim (cases_eq (i / 65536) q) [
       | inl is ↦
           let m : ℕ = i % 65536 in
-          let under : ℕ = get_or (page_row (rows f.chunks.items) q) m 0 in
+          let under : ℕ = get_or (page_row (rows f.groups.items) q) m 0 in
           let slot : get_or (chunk_rows chunk) (q % 4096) None ≡ own_of old w q =
           ap (λ (x : DraftChunk). get_or (chunk_rows x) (q % 4096) None) c.index_mut.ensures.value
           ∙ sym (slot_is cs w q c.in_ok-place.place chunk lays) ∙ here in
@@ -67,7 +67,7 @@ returns-clause-others c i out =
           (get_or (get_or r (q % 4096) []) m 0)) c.chunk_of-under.ensures
           ∙ ap (λ (o : Option (List ℕ)). byte_over o m under) slot ∙ sym (in_page old f w q i is)
       | inr other ↦
-          ap (λ (o : Option (List ℕ)). byte_over o (i % 65536) (get_or (page_row (rows f.chunks.items) (i / 65536)) (i % 65536) 0))
+          ap (λ (o : Option (List ℕ)). byte_over o (i % 65536) (get_or (page_row (rows f.groups.items) (i / 65536)) (i % 65536) 0))
           (done.others w (i / 65536) (λ both. other both.1) ∙ c.in_ok-place.ensures.same w (i / 65536))
     ]
 

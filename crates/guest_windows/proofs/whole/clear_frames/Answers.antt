@@ -20,7 +20,7 @@ loop-at-preserved c =
     record {
       size = length-set fs at g ∙ l.invariant.size;
       zero = done_set fs at g there (λ (j : ℕ) (d h : Frame). window h ≡ zeros (extent (window (get_or olds j d)))) l.invariant.zero
-          (λ d. c.clear.ensures.zero ∙ ap (λ (n : ℕ). zeros (f.base, n)) (sym (length-bytes f.len (rows f.chunks.items)))
+          (λ d. c.clear.ensures.zero ∙ ap (λ (n : ℕ). zeros (f.base, n)) (sym (length-bytes f.len (rows f.groups.items)))
           ∙ ap (λ (h : Frame). zeros (extent (window h))) (c.index_mut.ensures.value ∙ any_default fs at f d there ∙ l.invariant.left at d (omega arith)));
       left = left_set fs at g there olds l.invariant.left;
       whole = λ j d lt. whole_set fs at g there l.invariant.whole c.clear.ensures.whole j d (omega (arith, lt, length-set fs at g));

@@ -17,11 +17,11 @@ returns-then-page-self-clause-here c i lt is =
     let there : place < length (page_rows laid) = omega (arith, inside, length-map laid (λ (p : Page). p.bytes.items)) in
     let m : ℕ = i % 65536 in
     let fresh = c.index-laid-from.result in
-    ap (λ (q : ℕ). get_or (page_row (rows c.exchange_page.new.self.chunks.items) q) m 0) is
+    ap (λ (q : ℕ). get_or (page_row (rows c.exchange_page.new.self.groups.items) q) m 0) is
     ∙ ap (λ (row : List ℕ). get_or row m 0)
     (c.exchange_page.ensures.here
     ∙ sym (get_or-map (λ (p : Page). p.bytes.items) laid place fresh [] inside))
-    ∙ sym (ap (λ (o : Option (List ℕ)). byte_over o m (byte_in (rows c.args.self.now.chunks.items) i)) (numbered_is (page_rows laid) n place next there))
+    ∙ sym (ap (λ (o : Option (List ℕ)). byte_over o m (byte_in (rows c.args.self.now.groups.items) i)) (numbered_is (page_rows laid) n place next there))
 
 pub returns-then-page-self-clause-left : goal.returns-then-page-self-clause-left
 returns-then-page-self-clause-left c k not =

@@ -3,7 +3,7 @@ use Rattle.std.proofs.lemmas.Bool.{cases_eq}
 use Rattle.std.proofs.lemmas.List.{length-map}
 use Rattle.guest_windows.specs.declared.page.Page.{Page}
 use Rattle.guest_windows.specs.Chunks.{page_rows}
-use Rattle.guest_windows.specs.Pages.{rows, byte_in, chunk_row}
+use Rattle.guest_windows.specs.Pages.{rows, byte_in}
 use Rattle.guest_windows.specs.Drafts.{own_rows, numbered, byte_over}
 use Rattle.guest_windows.proofs.Numbers.{row_numbered, same_page}
 use Rattle.guest_windows.proofs.frame.Frame.adopt_pages.Goals as goal
@@ -37,7 +37,7 @@ loop-at-preserved c =
         | inl this ↦
             done.here i (omega (arith, lt, done.len)) (omega (arith, this, chunk, whole))
             ∙ ap (λ (x : ℕ). byte_over (numbered (page_rows left) n) (i % 65536) x) (inv.coming i chunk (omega (arith, this)))
-            ∙ ap (λ (o : Option (List ℕ)). byte_over o (i % 65536) (byte_in (rows c.args.self.now.chunks.items) i))
+            ∙ ap (λ (o : Option (List ℕ)). byte_over o (i % 65536) (byte_in (rows c.args.self.now.groups.items) i))
             (same ∙ ap (λ (k : ℕ). get_or (own_rows numbers laid) k None) (sym this))
         | inr other ↦
             done.others i (λ this. other (omega (arith, this, chunk, whole, inside, total)))
@@ -47,7 +47,7 @@ loop-at-preserved c =
       others = λ i out. done.others i (λ this. out (omega (arith, this, whole, inside, total))) ∙ inv.others i out;
       held =
           let chunk : c.args.first / 4096 ≡ (c.args.first + at) / 4096 = omega (arith, whole, inside, total) in
-          ap (λ (k : ℕ). length (get_or (rows c.adopt_page.new.self.chunks.items) k [])) chunk ∙ done.chunk;
+          ap (λ (k : ℕ). length (get_or (rows c.adopt_page.new.self.groups.items) k [])) chunk ∙ done.chunk;
       base = done.base ∙ inv.base;
       len = done.len ∙ inv.len;
     }

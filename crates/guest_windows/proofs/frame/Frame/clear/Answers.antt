@@ -8,14 +8,14 @@ pub clear_page-requires-clause-held : goal.clear_page-requires-clause-held
 clear_page-requires-clause-held c =
     let l = c.loop-page in
     let inside : 65536 * l.page < l.self.len = omega (arith, c.loop-page-test.true, c.div_ceil-page-end.ensures, l.auto.page-end, l.invariant.len) in
-    ap (λ (p : ℕ). length (page_row (rows l.self.chunks.items) p)) (omega arith) ∙ l.invariant.whole (65536 * l.page) (omega arith) (omega (arith, inside))
+    ap (λ (p : ℕ). length (page_row (rows l.self.groups.items) p)) (omega arith) ∙ l.invariant.whole (65536 * l.page) (omega arith) (omega (arith, inside))
 
 pub returns-clause-zero : goal.returns-clause-zero
 returns-clause-zero c =
     let l = c.loop-page in
     let before = c.args.self.now in
     let n = before.len in
-    let rs = rows l.self.chunks.items in
+    let rs = rows l.self.groups.items in
     ap (λ (b : ℕ). record { base = b; bytes = bytes_of l.self.len rs }) l.invariant.base
     ∙ ap (λ (m : ℕ). record { base = before.base; bytes = bytes_of m rs }) l.invariant.len
     ∙ ap (λ (bs : List ℕ). record { base = before.base; bytes = bs })

@@ -5,10 +5,10 @@ use Rattle.guest_windows.proofs.frame.Frame.copy_at.Given as goal
 abbrev pub invariant-loop-done : goal.invariant-loop-done
 invariant-loop-done l = record {
   within : l.done ≤ l.len;
-  here : (i : ℕ) → l.start ≤ i → i < l.start + l.done → byte_in (rows l.self.chunks.items) i ≡ byte_in (rows l.from.chunks.items) i;
-  others : (i : ℕ) → (i < l.start) ⊎ (l.start + l.done ≤ i) → byte_in (rows l.self.chunks.items) i ≡ byte_in (rows l.fn.self.chunks.items) i;
-  held : AreHeld (rows l.self.chunks.items) l.start l.len;
-  still : StillHeld (rows l.fn.self.chunks.items) (rows l.self.chunks.items);
+  here : (i : ℕ) → l.start ≤ i → i < l.start + l.done → byte_in (rows l.self.groups.items) i ≡ byte_in (rows l.from.groups.items) i;
+  others : (i : ℕ) → (i < l.start) ⊎ (l.start + l.done ≤ i) → byte_in (rows l.self.groups.items) i ≡ byte_in (rows l.fn.self.groups.items) i;
+  held : AreHeld (rows l.self.groups.items) l.start l.len;
+  still : StillHeld (rows l.fn.self.groups.items) (rows l.self.groups.items);
   base : l.self.base ≡ l.fn.self.base;
   len : l.self.len ≡ l.fn.self.len;
 }

@@ -9,16 +9,16 @@ use Rattle.guest_windows.proofs.Sparse.{written_is, length-bytes, byte_of}
 use Rattle.guest_windows.proofs.frame.Frame.copy_bytes.Goals as goal
 
 copied_is : (f g h : Frame) (a n : ℕ) → f.base ≡ g.base → f.len ≡ g.len → has (window f) a n ≡ true → h.base ≡ f.base → h.len ≡ f.len
-    → ((i : ℕ) → a - f.base ≤ i → i < a - f.base + n → byte_in (rows h.chunks.items) i ≡ byte_in (rows g.chunks.items) i)
-    → ((i : ℕ) → (i < a - f.base) ⊎ (a - f.base + n ≤ i) → byte_in (rows h.chunks.items) i ≡ byte_in (rows f.chunks.items) i)
+    → ((i : ℕ) → a - f.base ≤ i → i < a - f.base + n → byte_in (rows h.groups.items) i ≡ byte_in (rows g.groups.items) i)
+    → ((i : ℕ) → (i < a - f.base) ⊎ (a - f.base + n ≤ i) → byte_in (rows h.groups.items) i ≡ byte_in (rows f.groups.items) i)
     → window h ≡ put (window f) a (piece (window g) a n)
 copied_is f g h a n base len it new_base new_len here others =
     let t = fits_frame f a n it in
     let above = t.above in let below = t.below in
     let start = a - f.base in
-    let rs = rows f.chunks.items in
-    let ts = rows g.chunks.items in
-    let now = rows h.chunks.items in
+    let rs = rows f.groups.items in
+    let ts = rows g.groups.items in
+    let now = rows h.groups.items in
     let all = bytes_of g.len ts in
     let place : a - g.base ≡ start = omega (arith, base) in
     let bs = piece (window g) a n in

@@ -10,8 +10,8 @@ pub returns-then-end-first-clause-copied : goal.returns-then-end-first-clause-co
 returns-then-end-first-clause-copied c =
     let f = c.args.self.now in
     let g = c.args.from.now in
-    let long : length (window f).bytes ≡ f.len = length-bytes f.len (rows f.chunks.items) in
-    let also : length (window g).bytes ≡ g.len = length-bytes g.len (rows g.chunks.items) in
+    let long : length (window f).bytes ≡ f.len = length-bytes f.len (rows f.groups.items) in
+    let also : length (window g).bytes ≡ g.len = length-bytes g.len (rows g.groups.items) in
     none_mixed c.args.page (window g) (window f) (sym c.requires.base) (also ∙ sym c.requires.len ∙ sym long)
     (λ k lt is. omega (arith, lt, long, is, c.if-end-first.true, c.max-first.ensures, c.min-end.ensures))
 
@@ -24,8 +24,8 @@ pub returns-clause-copied : goal.returns-clause-copied
 returns-clause-copied c =
     let f = c.args.self.now in
     let g = c.args.from.now in
-    let long : length (window f).bytes ≡ f.len = length-bytes f.len (rows f.chunks.items) in
-    let also : length (window g).bytes ≡ g.len = length-bytes g.len (rows g.chunks.items) in
+    let long : length (window f).bytes ≡ f.len = length-bytes f.len (rows f.groups.items) in
+    let also : length (window g).bytes ≡ g.len = length-bytes g.len (rows g.groups.items) in
     c.copy_bytes.ensures.copied
     ∙ put_mixed c.args.page (window g) (window f) (sym c.requires.base) (also ∙ sym c.requires.len ∙ sym long) c.max-first.result _
     (omega (arith, c.max-first.ensures)) (omega (arith, long, c.if-end-first.false, c.max-first.ensures, c.min-end.ensures))

@@ -18,9 +18,9 @@ returns c =
     let start : ℕ = c.args.addr.0 - before.base in
     let none : List ℕ = replicate c.args.len 0 in
     let long : length none ≡ c.args.len = length-replicate c.args.len 0 in
-    ap (λ (b : ℕ). record { base = b; bytes = bytes_of after.len (rows after.chunks.items) }) c.forget_at.ensures.base
-    ∙ ap (λ (n : ℕ). record { base = before.base; bytes = bytes_of n (rows after.chunks.items) }) c.forget_at.ensures.len
+    ap (λ (b : ℕ). record { base = b; bytes = bytes_of after.len (rows after.groups.items) }) c.forget_at.ensures.base
+    ∙ ap (λ (n : ℕ). record { base = before.base; bytes = bytes_of n (rows after.groups.items) }) c.forget_at.ensures.len
     ∙ ap (λ (bs : List ℕ). record { base = before.base; bytes = bs })
-    (written_within before.len (rows before.chunks.items) (rows after.chunks.items) start none (omega (arith, f.above, f.below, long))
+    (written_within before.len (rows before.groups.items) (rows after.groups.items) start none (omega (arith, f.above, f.below, long))
     (λ k lt. c.forget_at.ensures.here (start + k) (omega arith) (omega (arith, lt, long)) ∙ sym (get_or-replicate c.args.len k 0 0 (omega (arith, lt, long))))
     (λ i below apart. c.forget_at.ensures.others i below (elim apart [ inl low ↦ inl low | inr high ↦ inr (omega (arith, high, long)) ])))

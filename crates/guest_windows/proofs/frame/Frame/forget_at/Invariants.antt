@@ -5,8 +5,8 @@ use Rattle.guest_windows.proofs.frame.Frame.forget_at.Given as goal
 abbrev pub invariant-loop-page : goal.invariant-loop-page
 invariant-loop-page l = record {
   low : l.start < 65536 * l.page + 65536;
-  here : (i : ℕ) → l.start ≤ i → i < l.end → i / 65536 < l.page → byte_in (rows l.self.chunks.items) i ≡ 0;
-  others : (i : ℕ) → i < l.fn.self.len → (i < l.start) ⊎ (l.end ≤ i) → byte_in (rows l.self.chunks.items) i ≡ byte_in (rows l.fn.self.chunks.items) i;
+  here : (i : ℕ) → l.start ≤ i → i < l.end → i / 65536 < l.page → byte_in (rows l.self.groups.items) i ≡ 0;
+  others : (i : ℕ) → i < l.fn.self.len → (i < l.start) ⊎ (l.end ≤ i) → byte_in (rows l.self.groups.items) i ≡ byte_in (rows l.fn.self.groups.items) i;
   base : l.self.base ≡ l.fn.self.base;
   len : l.self.len ≡ l.fn.self.len;
 }

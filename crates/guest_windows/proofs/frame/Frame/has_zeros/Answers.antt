@@ -8,7 +8,7 @@ use Rattle.guest_windows.proofs.frame.Frame.has_zeros.Goals as goal
 
 pub returns-then-not-held : goal.returns-then-not-held
 returns-then-not-held c =
-    let rs = rows c.args.self.now.chunks.items in
+    let rs = rows c.args.self.now.groups.items in
     let bytes = c.args.bytes.now in
     let at = c.args.start in
     let small : at % 65536 + length bytes ≤ 65536 = omega (arith, c.if-start-bytes-gt65536.false) in

@@ -4,8 +4,8 @@ use Rattle.guest_windows.proofs.frame.Frame.hold_all.Given as goal
 
 abbrev pub invariant-loop-page : goal.invariant-loop-page
 invariant-loop-page l = record {
-  same : SameBytes (rows l.fn.self.chunks.items) (rows l.self.chunks.items);
-  held : (i : ℕ) → i / 65536 < l.page → length (row_at (rows l.self.chunks.items) i) ≡ 65536;
+  same : SameBytes (rows l.fn.self.groups.items) (rows l.self.groups.items);
+  held : (i : ℕ) → i / 65536 < l.page → length (row_at (rows l.self.groups.items) i) ≡ 65536;
   base : l.self.base ≡ l.fn.self.base;
   len : l.self.len ≡ l.fn.self.len;
 }

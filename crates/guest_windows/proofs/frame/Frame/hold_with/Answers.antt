@@ -22,10 +22,10 @@ returns-clause-same c =
     let after = c.hold_page_with-last.new.self in
     let base = c.hold_page_with-last.ensures.base ∙ c.hold_page_with-first.ensures.base in
     let len = c.hold_page_with-last.ensures.len ∙ c.hold_page_with-first.ensures.len in
-    ap (λ (b : ℕ). record { base = b; bytes = bytes_of after.len (rows after.chunks.items) }) base
-    ∙ ap (λ (n : ℕ). record { base = before.base; bytes = bytes_of n (rows after.chunks.items) }) len
+    ap (λ (b : ℕ). record { base = b; bytes = bytes_of after.len (rows after.groups.items) }) base
+    ∙ ap (λ (n : ℕ). record { base = before.base; bytes = bytes_of n (rows after.groups.items) }) len
     ∙ ap (λ (bs : List ℕ). record { base = before.base; bytes = bs })
-    (same_bytes before.len (rows before.chunks.items) (rows after.chunks.items)
+    (same_bytes before.len (rows before.groups.items) (rows after.groups.items)
     (λ i. c.hold_page_with-last.ensures.same i ∙ c.hold_page_with-first.ensures.same i))
 
 pub returns-clause-held : goal.returns-clause-held

@@ -5,8 +5,8 @@ use Rattle.guest_windows.proofs.frame.Frame.next_held.Given as goal
 abbrev pub invariant-loop-page : goal.invariant-loop-page
 invariant-loop-page l = record {
   low : l.from ≤ l.page;
-  zero : (i : ℕ) → l.from ≤ i / 65536 → i / 65536 < l.page → byte_in (rows l.self.chunks.items) i ≡ 0;
-  skipped : (page : ℕ) → l.from ≤ page → page < l.page → page_row (rows l.self.chunks.items) page ≡ [];
+  zero : (i : ℕ) → l.from ≤ i / 65536 → i / 65536 < l.page → byte_in (rows l.self.groups.items) i ≡ 0;
+  skipped : (page : ℕ) → l.from ≤ page → page < l.page → page_row (rows l.self.groups.items) page ≡ [];
 }
 
 abbrev pub decreases-loop-page : goal.decreases-loop-page

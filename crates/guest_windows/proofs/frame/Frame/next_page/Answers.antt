@@ -46,4 +46,4 @@ returns-clause-held c some =
     let below : at < f.len = omega (arith, c.if-self-at.false) in
     let inside : 65536 * page < f.len = omega (arith, below, c.max-at.ensures) in
     let is : at / 65536 ≡ page = omega (arith, inside, c.max-at.ensures, c.saturating_sub-start.ensures, c.next_held-page.ensures.from) in
-    (at, below, refl, ap (λ (q : ℕ). length (page_row (rows f.chunks.items) q)) is ∙ c.next_held-page.ensures.held inside)
+    (at, below, refl, ap (λ (q : ℕ). length (page_row (rows f.groups.items) q)) is ∙ c.next_held-page.ensures.held inside)

@@ -17,7 +17,7 @@ loop-done-preserved c =
         | inl before ↦ c.put_piece.ensures.others (c.args.start + k) (inl (omega (arith, before))) ∙ inv.here k before
         | inr past ↦
             let at : c.args.start + k ≡ c.args.start + done + (k - done) = omega (arith, past) in
-            ap (λ (i : ℕ). byte_in (rows c.put_piece.new.self.chunks.items) i) at
+            ap (λ (i : ℕ). byte_in (rows c.put_piece.new.self.groups.items) i) at
             ∙ c.put_piece.ensures.here (k - done) (omega (arith, long, lt, past)) ∙ piece_byte done (done + n) k c.args.bytes.now past lt
       ];
       others = λ i out.
