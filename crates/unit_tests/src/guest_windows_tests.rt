@@ -220,3 +220,67 @@ fn both_ends_of_a_wide_window_are_held(rt: HostRuntime) -> Result<(), Fail> {
     assert_eq!(rt; last, [0x1_0000_ffff_0000, 0, 0, 0]);
     Ok(())
 }
+
+// Windows that are added to those two, in order, with the answers: one that touches the second,
+// four that share a byte with one or more, two that end past 2^52, one that is empty, and the last
+// that memory may have.
+const ADDED: [(Addr, u64, Result<(), NewError>); 9] = [
+    (Addr(0x8000_1020), 0x10, Ok(())),
+    (Addr(0x8000_102f), 1, Err(NewError::BadWindows)),
+    (Addr(0x7fff_ffff), 2, Err(NewError::BadWindows)),
+    (Addr(0x8000_0fff), 2, Err(NewError::BadWindows)),
+    (Addr(0), 1 << 52, Err(NewError::BadWindows)),
+    (LAST, 17, Err(NewError::BadWindows)),
+    (Addr(0xffff_ffff_ffff_ffff), 2, Err(NewError::BadWindows)),
+    (Addr(0), 0, Err(NewError::BadWindows)),
+    (LAST, 16, Ok(())),
+];
+
+// The first of them that is answered otherwise.
+fn wrong_addition(memory: &mut Memory) -> Option<usize> {
+    for (at, (base, len, want)) in ADDED.iter().enumerate() {
+        if memory.add_window(*base, *len) != *want {
+            return Some(at);
+        }
+    }
+    None
+}
+
+// What was written before, and what is in the windows that were added.
+const PLUGGED: [Act; 6] = [
+    Act::Word(0x8000_1018, Ok(7)),
+    Act::Word(0x8000_1020, Ok(0)),
+    Act::WritesWord(0x8000_1028, 8),
+    Act::Word(0x8000_1028, Ok(8)),
+    Act::Inside(0x8000_1018, 9, false),
+    Act::Inside(LAST.0, 16, true),
+];
+
+#[test]
+fn windows_are_added(rt: HostRuntime) -> Result<(), Fail> {
+    let mut memory = Memory::new(rt.alloc(), &TWO)?;
+    let written = play(&mut memory, &[Act::WritesWord(0x8000_1018, 7)]);
+    let wrong = wrong_addition(&mut memory);
+    let plugged = play(&mut memory, &PLUGGED);
+    let windows = memory.windows(rt.alloc())?;
+    assert_eq!(rt; wrong, None);
+    assert_eq!(rt; [written, plugged, windows.len()], [1, 6, 4]);
+    Ok(())
+}
+
+// Windows of a byte each, as many as memory may have and one more.
+fn add_many(memory: &mut Memory) -> u64 {
+    for at in 0..17 {
+        if memory.add_window(Addr(2 * at), 1) != Ok(()) {
+            return at;
+        }
+    }
+    17
+}
+
+#[test]
+fn a_memory_has_sixteen_windows_at_most(rt: HostRuntime) -> Result<(), Fail> {
+    let mut memory = Memory::new(rt.alloc(), &TWO)?;
+    assert_eq!(rt; add_many(&mut memory), 14);
+    Ok(())
+}
