@@ -17,3 +17,4 @@ mod Walking
 mod Unstale
 mod Put
 mod SteppedOn
+mod Grown

@@ -9,3 +9,4 @@ pub mod Migrations
 pub mod Placed
 pub mod Stale
 pub mod Lent
+pub mod Windows

@@ -18,6 +18,7 @@ mod signals;
 mod stale;
 mod steps;
 mod stretches;
+mod windows;
 
 pub use machine::Machine;
 pub use migrations::{moved, resumed};
