@@ -1,10 +1,8 @@
 use Rattle.std.proofs.Common.{◌∙◌, arith}
-use Rattle.event_script.specs.Script.{script_of}
 use Rattle.event_script.proofs.Lines.{read_on, read_fails}
-use Rattle.event_script.proofs.reading.parse.Goals as goal
+use Rattle.event_script.proofs.reading.read_script.Goals as goal
 
 pub returns-in-Err : goal.returns-in-Err
-unfolding script_of
 returns-in-Err c =
     rw (c.at.ensures, c.loop-line.invariant.read)
     (read_fails c.loop-line.number c.loop-line.draft c.loop-line.rest.now c.in-Some.line.now c.in-Some.more.now c.in-Err.error c.in-Some.ensures.first

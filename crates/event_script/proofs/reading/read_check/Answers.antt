@@ -1,12 +1,11 @@
 use Rattle.std.proofs.Common.{◌≡◌, ◌+◌, ◌∙◌, map, true, false, sym, ap, subst, arith}
 use Rattle.event_script.specs.Text.{parts, fields}
-use Rattle.event_script.specs.Script.{line, at_line, ◌then◌, begins_report, check_from, check_of, IsCheckAnswer}
+use Rattle.event_script.specs.Script.{line, at_line, ◌then◌, begins_report, check_from, IsCheckAnswer}
 use Rattle.event_script.specs.declared.draft.Draft.{Draft}
 use Rattle.event_script.proofs.Reports.{begun, goes_on, fails_at}
-use Rattle.event_script.proofs.reading.parse_check.Goals as goal
+use Rattle.event_script.proofs.reading.read_check.Goals as goal
 
 pub returns-then-branch : goal.returns-then-branch
-unfolding check_of
 returns-then-branch c =
     let l = c.loop-line in
     let first = c.in-Some.line.now in
@@ -19,7 +18,6 @@ returns-then-branch c =
     c.trace_line.ensures
 
 pub returns-in-Err : goal.returns-in-Err
-unfolding check_of
 returns-in-Err c =
     let l = c.loop-line in
     let first = c.in-Some.line.now in
