@@ -20,8 +20,8 @@ use its_types::{Gate, Placed};
 use std::alloc::{AllocError, Global};
 
 /// Writes the tables and the pending LPIs of all translators to guest memory, as `save` does, and
-/// waits for no turn. Where another pass has a part, or another call is made first, nothing was
-/// written, and where there is no memory for it neither.
+/// waits for no turn. Where another pass has a part, or another call comes first each time that it
+/// is tried to be made, nothing was written, and where there is no memory for it neither.
 ///
 /// ```
 /// let saved = match try_save(alloc, machine, pass, &Open)? {
