@@ -4,6 +4,7 @@
 #![tactic(auto)]
 
 mod codes;
+mod concerned;
 mod counters;
 mod describing;
 mod events;
@@ -18,6 +19,7 @@ mod room;
 mod routes;
 
 pub use codes::{BUSY, DONE, FAULT, FULL, HANDLE, NO_MEMORY, OUTSIDE, RANGE, SPENT};
+pub use concerned::concerned_words;
 pub use counters::{Counters, RefusedCounts, SignalCounts};
 pub use describing::{description, is_in_range};
 pub use events::{EventOut, event_out};
