@@ -1,36 +1,31 @@
 -- The bounds of a call that was answered.
-use Rattle.std.proofs.Common.{◌≡◌, ℕ, zero, suc, ◌^◌, ◌<◌, ◌≤◌, Bool, true, false, List, [], ◌∷◌, length, get_or, Result, Ok, Err, refl, sym, ap, subst, ◌∙◌, inl, inr}
+use Rattle.std.proofs.Common.{◌≡◌, ℕ, ◌^◌, ◌<◌, ◌≤◌, Bool, true, false, List, [], ◌∷◌, length, get_or, Result, Ok, Err, refl, sym, ap, subst, ◌∙◌, inl, inr}
 use Rattle.std.proofs.Common.{arith}
 use Rattle.std.proofs.lemmas.Bool.{cases_lt}
 use Rattle.std.proofs.lemmas.List.{get_or_past}
 use Rattle.std.specs.Option.{option_map}
 use Rattle.std.specs.Result.{result_ok}
 use Rattle.its_types.specs.declared.ids.Target.{Target}
-use Rattle.its_types.specs.declared.ids.Vcpu.{Vcpu}
 use Rattle.its_types.specs.declared.machine.Part.{Part}
 use Rattle.its_types.specs.declared.machine.Part.TheVariants.{Maps as MapsOf, Pend}
 use Rattle.its_history.specs.Texts.{answered_text}
-use Rattle.its_plain.specs.Answer.{answer, reply_of, signal_left}
+use Rattle.its_plain.specs.Answer.{signal_left}
 use Rattle.its_plain.specs.Parts.{IsIn, SamePart, footprint, pend_at}
 use Rattle.its_plain.specs.Plain.{Plain, Redistributor, is_on, no_redistributor, translator}
 use Rattle.its_plain.specs.Translation.{located, translated}
 use Rattle.its_plain.specs.declared.call.Call.{Call}
 use Rattle.its_plain.specs.declared.call.Cause.{Cause}
 use Rattle.its_plain.specs.declared.call.Cause.TheVariants.{LpisOff}
-use Rattle.its_plain.specs.declared.call.Reply.{Reply}
 use Rattle.its_plain.specs.declared.call.Reply.TheVariants as reply
-use Rattle.its_plain.specs.declared.call.Signal.{Signal}
-use Rattle.its_plain.specs.declared.call.Signal.TheVariants.{Delivered, Dropped}
 use Rattle.plain_footprint.proofs.Stays.{same_part}
 use Rattle.its_fit.specs.Commuting.{IsSmall}
-use Rattle.its_fit.specs.Reaches.{IsAmong, IsBounded, IsSentTo, IsWithin, bounds_of, changes_of, is_message, message, pending_at, reach_of, read_for, sent_to}
-use Rattle.its_fit.specs.declared.bounds.Bounds.{Bounds}
+use Rattle.its_fit.specs.Reaches.{IsAmong, IsBounded, IsSentTo, IsWithin, bounds_of, is_message, message, pending_at, reach_of, read_for, sent_to}
 use Rattle.its_fit.specs.declared.reach.Numbers.{Numbers}
 use Rattle.its_fit.specs.declared.reach.Numbers.TheVariants.{Empty, Single, Every}
 use Rattle.its_fit.specs.declared.reach.Reach.{Reach}
 use Rattle.its_fit.proofs.Changes.{delivered_stays, stays}
 use Rattle.its_fit.proofs.Messages.{IsSignal, is_signal, sent, sent_on}
-use Rattle.its_fit.proofs.Reaching.{AllWithin, footprint_within, within_at}
+use Rattle.its_fit.proofs.Reaching.{footprint_within, within_at}
 
 -- whatever it was answered
 pub bounded : (c : Call) (text : List ℕ) → IsBounded c text (bounds_of c)

@@ -1,7 +1,7 @@
 -- What a call doesn't change stays, in every state.
 use Rattle.std.proofs.Common.{◌≡◌, ℕ, Bool, true, false, List, [], ◌∷◌, Option, Some, None, Result, Ok, Err, IfOk, refl, ◌==◌, sym, subst, if◌then◌else◌}
 use Rattle.its_command.specs.Commands.{decoded}
-use Rattle.its_types.specs.Lpis.{with_lpi, with_lpis, without_lpi}
+use Rattle.its_types.specs.Lpis.{with_lpi, with_lpis}
 use Rattle.its_types.specs.declared.ids.Intid.{Intid}
 use Rattle.its_types.specs.declared.ids.Vcpu.{Vcpu}
 use Rattle.its_types.specs.declared.machine.Part.{Part}
@@ -17,7 +17,6 @@ use Rattle.its_plain.specs.Translation.{translated}
 use Rattle.its_plain.specs.declared.call.Call.{Call}
 use Rattle.its_plain.specs.declared.call.Call.TheVariants as call
 use Rattle.its_plain.specs.declared.call.Reason.{Reason}
-use Rattle.its_plain.specs.declared.call.Route.{Route}
 use Rattle.its_plain.specs.declared.call.Route.TheVariants as route
 use Rattle.its_plain.specs.declared.call.Signal.{Signal}
 use Rattle.its_plain.specs.declared.call.Signal.TheVariants.{Delivered, Dropped}
@@ -31,7 +30,7 @@ use Rattle.plain_footprint.proofs.Stays.{Stay, same_part, stay, stay_pend}
 use Rattle.its_fit.specs.Reaches.{IsWithin, changes_of, everything, memory, pending_at, reach_of, redistributor}
 use Rattle.its_fit.specs.declared.reach.Numbers.TheVariants.{Every, Single}
 use Rattle.its_fit.specs.declared.reach.Reach.{Reach}
-use Rattle.its_fit.proofs.Reaching.{AllWithin, footprint_within, within_at}
+use Rattle.its_fit.proofs.Reaching.{footprint_within, within_at}
 
 -- a part stays that isn't within the call's reach
 beyond : (u : Plain) (c : Call) → HasRedistributors u → (p : Part) → ¬ IsWithin (reach_of c) p → SamePart u (answer u c).1 p

@@ -22,7 +22,7 @@ use Rattle.its_fit.specs.declared.bounds.Bounds.{Bounds}
 use Rattle.its_fit.specs.declared.reach.Reach.{Reach}
 use Rattle.its_fit.proofs.First.{answer_has, answer_small}
 use Rattle.its_fit.proofs.Lists.{some_is}
-use Rattle.its_fit.proofs.Reaching.{AllWithin, within_at, footprint_within, apart_is}
+use Rattle.its_fit.proofs.Reaching.{AllWithin, footprint_within, apart_is}
 
 -- ---- parts that are the same
 

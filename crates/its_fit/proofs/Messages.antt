@@ -1,19 +1,17 @@
 -- Two messages commute: each reads only maps and what is on, and makes an LPI pending.
-use Rattle.std.proofs.Common.{◌≡◌, ℕ, zero, suc, ◌<◌, ◌≤◌, Bool, true, List, [], ◌∷◌, get_or, set, Result, Ok, Err, refl, sym, ap, ◌∙◌, inl, inr, arith}
+use Rattle.std.proofs.Common.{◌≡◌, ℕ, zero, suc, ◌<◌, Bool, true, List, [], ◌∷◌, get_or, set, Result, Ok, Err, refl, sym, ap, ◌∙◌, inl, inr, arith}
 use Rattle.std.proofs.lemmas.Bool.{cases_eq, cases_lt, eq-eqb, ne_eqb, lt-ltb, le-ltb}
 use Rattle.its_types.specs.Lpis.{with_lpi}
 use Rattle.its_types.specs.declared.ids.Target.{Target}
 use Rattle.its_plain.specs.Answer.{answer, left, reply_of, signal_left, signal_reply}
 use Rattle.its_plain.specs.Parts.{footprint, signal_parts}
-use Rattle.its_plain.specs.Plain.{Plain, Redistributor, is_on, no_redistributor, redistributor, translator, with_redistributor}
+use Rattle.its_plain.specs.Plain.{Plain, Redistributor, is_on, no_redistributor, translator}
 use Rattle.its_plain.specs.Translation.{◌>>=◌, ensure, located, translated}
 use Rattle.its_plain.specs.declared.call.Call.{Call}
 use Rattle.its_plain.specs.declared.call.Call.TheVariants as call
 use Rattle.its_plain.specs.declared.call.Cause.{Cause}
 use Rattle.its_plain.specs.declared.call.Cause.TheVariants.{LpisOff}
-use Rattle.its_plain.specs.declared.call.Reply.{Reply}
 use Rattle.its_plain.specs.declared.call.Reply.TheVariants as reply
-use Rattle.its_plain.specs.declared.call.Route.{Route}
 use Rattle.its_plain.specs.declared.call.Route.TheVariants as route
 use Rattle.its_plain.specs.declared.call.Signal.{Signal}
 use Rattle.its_plain.specs.declared.call.Signal.TheVariants.{Delivered, Dropped}

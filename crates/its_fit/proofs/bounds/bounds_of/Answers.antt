@@ -1,6 +1,5 @@
 use Rattle.std.proofs.Common.{◌≡◌, ◌∙◌, true, false, sym, subst}
 use Rattle.its_fit.specs.Reaches.{IsBounded, bounds_of, sent_to}
-use Rattle.its_fit.specs.declared.bounds.Bounds.{Bounds}
 use Rattle.its_fit.proofs.Bounded.{bounded, bounded_by}
 use Rattle.its_fit.proofs.bounds.bounds_of.Goals as goal
 

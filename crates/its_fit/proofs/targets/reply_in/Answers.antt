@@ -1,4 +1,4 @@
-use Rattle.std.proofs.Common.{◌≡◌, ◌∙◌, ℕ, length, sym}
+use Rattle.std.proofs.Common.{◌≡◌, ◌∙◌, length, sym}
 use Rattle.its_fit.proofs.Lists.{none_some, some_is}
 use Rattle.its_fit.proofs.Sent.{place_is, rest_is}
 use Rattle.its_fit.proofs.targets.reply_in.Goals as goal

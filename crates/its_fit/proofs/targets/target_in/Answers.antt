@@ -1,7 +1,5 @@
-use Rattle.std.proofs.Common.{◌≡◌, ◌∙◌, ℕ, List, ◌<◌, ◌^◌, Some, None, codes, sym, ap, subst, arith}
+use Rattle.std.proofs.Common.{◌∙◌, sym, ap, arith}
 use Rattle.std.specs.Prelude.{option_map}
-use Rattle.its_history.specs.Reading.{after}
-use Rattle.its_fit.specs.Reaches.{IsAmong}
 use Rattle.its_fit.specs.declared.reach.Numbers.TheVariants.{Single}
 use Rattle.its_fit.proofs.Lists.{some_is}
 use Rattle.its_fit.proofs.Sent.{none_sent, some_sent}

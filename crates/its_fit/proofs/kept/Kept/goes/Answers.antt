@@ -1,4 +1,4 @@
-use Rattle.std.proofs.Common.{◌≡◌, ◌∙◌, List, sym, ap, subst}
+use Rattle.std.proofs.Common.{◌∙◌, List, sym, ap, subst}
 use Rattle.its_plain.specs.Plain.{Plain}
 use Rattle.its_fit.specs.Replays.{IsAfter, call_at, left_by}
 use Rattle.its_fit.specs.declared.replay.Made.{Made}

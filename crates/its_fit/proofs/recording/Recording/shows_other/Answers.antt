@@ -1,7 +1,7 @@
-use Rattle.std.proofs.Common.{◌≡◌, ◌∙◌, Some, None, sym, ap}
+use Rattle.std.proofs.Common.{◌≡◌, ◌∙◌, Some, sym, ap}
 use Rattle.std.proofs.lemmas.Bool.Decides.{not_from_Decides}
 use Rattle.std.specs.Prelude.{option_map}
-use Rattle.its_fit.specs.Replays.{shown, told_at}
+use Rattle.its_fit.specs.Replays.{told_at}
 use Rattle.its_fit.proofs.Answering.{shown_same, shown_so}
 use Rattle.its_fit.proofs.Reaching.{not_true}
 use Rattle.its_fit.proofs.recording.Recording.shows_other.Goals as goal
