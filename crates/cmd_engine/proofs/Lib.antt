@@ -12,3 +12,4 @@ pub mod Getting
 pub mod Trying
 pub mod Kept
 pub mod Ruled
+pub mod Concerning

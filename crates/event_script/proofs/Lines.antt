@@ -7,12 +7,13 @@ use Rattle.std.specs.Option.{unwrap_or}
 use Rattle.std.proofs.lemmas.Bool.{ltb-true, ltb-false}
 use Rattle.std.proofs.lemmas.List.Sums.{fails_before_first}
 use Rattle.std.proofs.lemmas.List.Splits.{slice_split_first, slice_split_none, length-slice_split}
+use Rattle.its_plain.specs.declared.desc.LpiTables.{LpiTables}
 use Rattle.event_script.specs.Text.{parts}
 use Rattle.event_script.specs.Outcome.{Fails, Gives, error_at}
 use Rattle.event_script.specs.declared.fault.Kind.TheVariants as kind
 use Rattle.event_script.specs.declared.fault.LineError.{LineError}
 use Rattle.event_script.specs.declared.fault.LineError.TheVariants as errors
-use Rattle.event_script.specs.Described.{described_tables, tables_of, desc_of}
+use Rattle.event_script.specs.Described.{desc_with, described_tables, tables_of, desc_of}
 use Rattle.event_script.specs.Script.{line, at_line, ◌then◌, parts_from, said, finished, FailsAs}
 use Rattle.event_script.specs.declared.draft.Draft.{Draft}
 use Rattle.event_script.specs.declared.script.Script.{Script}
@@ -66,6 +67,18 @@ read_fails n d text first more (errors.Fault k) at h =
 -- what is left is no line
 pub read_last : (n : ℕ) (d : Draft) (text : List ℕ) → parts text ≡ text ∷ [] → parts_from n d (parts text) ≡ at_line n (finished d text)
 read_last n d text at = ap (parts_from n d) at
+
+-- what was said, where shards and tables were given
+pub said_with : (d : Draft) (shards : ℕ) (tables : LpiTables) → ok_or d.shards kind.Missing ≡ Ok shards → tables_of d ≡ Ok tables
+    → said d ≡ Ok (record {
+      desc = desc_with d shards tables;
+      fill_lines = d.fill_lines;
+      requester_lines = d.requester_lines;
+      legs = d.legs;
+      moves = d.moves;
+    })
+unfolding said desc_of
+said_with d shards tables some given = rw (some, given) refl
 
 -- the tables of the redistributors are not read
 tables_fail : (d : Draft) (shards : ℕ) (e : LineError) → ok_or d.shards kind.Missing ≡ Ok shards → Fails e (tables_of d) → Fails e (said d)

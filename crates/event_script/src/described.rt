@@ -14,6 +14,7 @@ use gicr_regs::{GicrRegisters, GicrValues};
 use its_plain::{Desc, Its, LpiTables, RequesterRanges};
 use its_types::{Limits, Listed, Profile, Shape};
 use std::alloc::{AllocError, Global};
+use std::mem;
 
 /// How many bytes the windows of a script may have together.
 const MEMORY_LIMIT: u64 = 67_108_864;
@@ -130,35 +131,41 @@ impl Draft {
         Ok(translators)
     }
 
-    /// The script of a draft that ended.
+    /// Takes the script of a draft that ended.
     #[tactic(auto, unfolding(crate::specs::Script::said, crate::specs::Described::desc_of))]
-    pub fn script(self, alloc: Global) -> Result<Script, LineError>
-        ensures { Gives (λ script. script) result (script.said self) }
+    pub fn script(&mut self, alloc: Global) -> Result<Script, LineError>
+        ensures { Gives (λ script. script) result (script.said self.old) }
     {
         let shards = self.shards.ok_or(Kind::Missing)?;
-        let tables = self.tables(alloc)?;
         let translators = self.translators(alloc)?;
-        let shape = self.shape();
-        let limits = self.limits.unwrap_or(default_limits(self.pair));
+        let requesters = RequesterRanges::from_slice(alloc, self.requesters.as_slice())?;
+        let tables = self.tables(alloc)?;
         let desc = Desc {
-            shape,
+            shape: self.shape(),
             shards,
-            limits,
-            windows: self.windows,
+            limits: self.limits.unwrap_or(default_limits(self.pair)),
+            windows: taken(alloc, &mut self.windows),
             memory_limit: MEMORY_LIMIT,
             tables,
-            fills: self.fills,
+            fills: taken(alloc, &mut self.fills),
             translators,
-            requesters: RequesterRanges::from_slice(alloc, self.requesters.as_slice())?,
+            requesters,
             from_kvm: self.from_kvm,
             track: self.track,
         };
         Ok(Script {
             desc,
-            fill_lines: self.fill_lines,
-            requester_lines: self.requester_lines,
-            legs: self.legs,
-            moves: self.moves,
+            fill_lines: taken(alloc, &mut self.fill_lines),
+            requester_lines: taken(alloc, &mut self.requester_lines),
+            legs: taken(alloc, &mut self.legs),
+            moves: taken(alloc, &mut self.moves),
         })
     }
+}
+
+/// Takes a list out of its place, where none of it is left.
+fn taken<T: Drop>(alloc: Global, list: &mut Listed<T>) -> Listed<T>
+    ensures { result ≡ list.old }
+{
+    mem::replace(list, Listed::new(alloc))
 }

@@ -21,7 +21,7 @@ pub const MOST_THREADS: usize = 64;
 pub const MOST_CALLS: usize = 65536;
 
 /// How far a script has come.
-#[derive(Clone, Copy, Debug, PartialEq, Eq)]
+#[derive(Clone, Copy, PartialEq, Eq)]
 pub enum Stage {
     /// No line was read.
     Start,
@@ -38,7 +38,7 @@ pub enum Stage {
 }
 
 /// How many bits a DeviceID has, and the INTID of an LPI.
-#[derive(Clone, Copy, Debug, PartialEq, Eq)]
+#[derive(Clone, Copy, PartialEq, Eq)]
 pub struct IdBits {
     /// 16 to 20.
     pub dev: u8,
@@ -47,7 +47,7 @@ pub struct IdBits {
 }
 
 /// What was read so far.
-#[derive(Debug, Drop)]
+#[derive(Drop)]
 pub struct Draft {
     pub stage: Stage,
     pub shards: Option<u32>,

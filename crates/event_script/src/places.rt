@@ -14,7 +14,7 @@ use std::marker::Model;
 
 /// A place for each virtual processor of a machine, which has what a line gave of it; or none
 /// before their number is known.
-#[derive(Debug, Drop)]
+#[derive(Drop)]
 pub struct Places<T> {
     places: Vec<Option<T>>,
 }

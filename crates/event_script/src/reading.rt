@@ -21,6 +21,15 @@ pub fn parse(alloc: Global, bytes: &[u8]) -> Result<Script, ParseError>
     ensures { spec.IsAnswer result (spec.script_of bytes.now) }
 {
     let mut draft = Draft::new(alloc);
+    let read = read_script(alloc, &mut draft, bytes);
+    drop(draft);
+    read
+}
+
+/// Reads all lines, of which none was read so far.
+fn read_script(alloc: Global, draft: &mut Draft, bytes: &[u8]) -> Result<Script, ParseError>
+    ensures { spec.IsAnswer result (spec.parts_from 1 draft.old (parts bytes.now)) }
+{
     let mut rest = bytes;
     let mut fields = Vec::new(alloc);
     let mut number = 1;
@@ -41,6 +50,19 @@ pub fn parse_check(alloc: Global, bytes: &[u8]) -> Result<CheckInput<'_>, ParseE
     ensures { spec.IsCheckAnswer result (spec.check_of bytes.now) }
 {
     let mut draft = Draft::new(alloc);
+    let read = read_check(alloc, &mut draft, bytes);
+    drop(draft);
+    read
+}
+
+/// Reads the lines up to `trace`, of which none was read so far.
+fn read_check<'a>(
+    alloc: Global,
+    draft: &mut Draft,
+    bytes: &'a [u8],
+) -> Result<CheckInput<'a>, ParseError>
+    ensures { spec.IsCheckAnswer result (spec.check_from 1 draft.old (parts bytes.now)) }
+{
     let mut rest = bytes;
     let mut fields = Vec::new(alloc);
     let mut number = 1;
@@ -76,12 +98,12 @@ fn without_report(last: &[u8]) -> Kind
 fn trace_line<'a>(
     alloc: Global,
     number: u64,
-    draft: Draft,
+    draft: &mut Draft,
     fields: &[&[u8]],
     report: &'a [u8],
 ) -> Result<CheckInput<'a>, ParseError>
     ensures { spec.IsCheckAnswer result
-        (spec.report_line number draft (map (λ f. f.now) fields.now) (parts report.now)) }
+        (spec.report_line number draft.old (map (λ f. f.now) fields.now) (parts report.now)) }
 {
     match trace_with(alloc, draft, fields) {
         Ok(script) => Ok(CheckInput { script, report }),
@@ -90,9 +112,9 @@ fn trace_line<'a>(
 }
 
 #[tactic(auto, unfolding(crate::specs::Script::trace_with))]
-fn trace_with(alloc: Global, draft: Draft, fields: &[&[u8]]) -> Result<Script, LineError>
+fn trace_with(alloc: Global, draft: &mut Draft, fields: &[&[u8]]) -> Result<Script, LineError>
     ensures { Gives (λ script. script) result
-        (spec.trace_with draft (map (λ f. f.now) fields.now)) }
+        (spec.trace_with draft.old (map (λ f. f.now) fields.now)) }
 {
     ensure(fields.len() == 1, Kind::Fields)?;
     script_from(alloc, draft)
@@ -126,8 +148,8 @@ fn line_end(text: &[u8]) -> Option<usize>
 }
 
 /// The script of a draft, if it ended and nothing stands after its last line end.
-fn finish(alloc: Global, number: u64, draft: Draft, last: &[u8]) -> Result<Script, ParseError>
-    ensures { spec.IsAnswer result (spec.at_line number (spec.finished draft last.now)) }
+fn finish(alloc: Global, number: u64, draft: &mut Draft, last: &[u8]) -> Result<Script, ParseError>
+    ensures { spec.IsAnswer result (spec.at_line number (spec.finished draft.old last.now)) }
 {
     match finished(alloc, draft, last) {
         Ok(script) => Ok(script),
@@ -136,16 +158,16 @@ fn finish(alloc: Global, number: u64, draft: Draft, last: &[u8]) -> Result<Scrip
 }
 
 #[tactic(auto, unfolding(crate::specs::Script::finished))]
-fn finished(alloc: Global, draft: Draft, last: &[u8]) -> Result<Script, LineError>
-    ensures { Gives (λ script. script) result (spec.finished draft last.now) }
+fn finished(alloc: Global, draft: &mut Draft, last: &[u8]) -> Result<Script, LineError>
+    ensures { Gives (λ script. script) result (spec.finished draft.old last.now) }
 {
     ensure(last.is_empty(), Kind::Cut)?;
     script_from(alloc, draft)
 }
 
 #[tactic(auto, unfolding(crate::specs::Script::script_from))]
-fn script_from(alloc: Global, draft: Draft) -> Result<Script, LineError>
-    ensures { Gives (λ script. script) result (spec.script_from draft) }
+fn script_from(alloc: Global, draft: &mut Draft) -> Result<Script, LineError>
+    ensures { Gives (λ script. script) result (spec.script_from draft.old) }
 {
     ensure(draft.is_ended(), Kind::Missing)?;
     draft.script(alloc)

@@ -7,7 +7,7 @@ ghost use Rattle.event_script.specs.Words as spec;
 use crate::fault::Kind;
 
 /// The first word of a line that is no call's.
-#[derive(Clone, Copy, Debug, PartialEq, Eq)]
+#[derive(Clone, Copy, PartialEq, Eq)]
 pub enum Keyword {
     Vcpus,
     Processors,
@@ -73,7 +73,7 @@ pub const KEYWORDS: [Keyword; 28] = [
 ];
 
 /// The first word of a call's line. `Word` is a description's too.
-#[derive(Clone, Copy, Debug, PartialEq, Eq)]
+#[derive(Clone, Copy, PartialEq, Eq)]
 pub enum CallWord {
     Signal,
     Take,
@@ -116,7 +116,7 @@ pub const CALL_WORDS: [CallWord; 17] = [
 ];
 
 /// The word of a command.
-#[derive(Clone, Copy, Debug, PartialEq, Eq)]
+#[derive(Clone, Copy, PartialEq, Eq)]
 pub enum CommandWord {
     Mapd,
     Unmapd,

@@ -48,25 +48,26 @@ pub struct Story<'a> {
 }
 
 impl<'a> Story<'a> {
-    /// Before the first line. The machine stands in its first state.
+    /// Before the first line. The machine stands in its first state, and the book is the script's.
     pub fn new(
         alloc: Global,
         input: &'a [u8],
         script: &'a Script,
         machine: Replayed,
+        book: Book,
         lines: &'a [CallLine],
-    ) -> Result<Story<'a>, AllocError> {
-        Ok(Story {
+    ) -> Story<'a> {
+        Story {
             alloc,
             input,
             script,
             machine,
-            book: Book::of_script(alloc, script)?,
+            book,
             lines,
             legs: 0,
             left: Left::none(alloc),
             places: 0,
-        })
+        }
     }
 
     /// Tells a line of the report.

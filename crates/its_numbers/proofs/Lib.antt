@@ -1,3 +1,4 @@
 pub mod LooseValues
 pub mod ToldLists
 pub mod ToldFrom
+pub mod RoutesStay
