@@ -11,4 +11,5 @@ pub mod Pieces
 pub mod Routes
 pub mod Saves
 pub mod Stretches
+pub mod Windows
 pub mod Words
