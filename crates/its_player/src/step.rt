@@ -48,7 +48,10 @@ impl Shared {
         let Some(at) = find_pass(&self.views, event.pass) else {
             return Ok(self);
         };
-        self.moved(alloc, at, &event.kind)?;
+        let Ok(()) = self.moved(alloc, at, &event.kind) else {
+            drop(self);
+            return Err(AllocError);
+        };
         Ok(self)
     }
 }
