@@ -10,14 +10,13 @@ ghost use Rattle.its_types.specs.Ranges.{most_vcpus};
 ghost use Rattle.owned_parts.specs.RedistSets.{is_in};
 ghost use Rattle.its_numbers.specs.Codes as codes;
 ghost use Rattle.its_numbers.specs.Limits.{is_full};
-ghost use Rattle.its_c.specs.Routes.{went_on, step_leaves_maps, KeepsRoutes};
+ghost use Rattle.its_c.specs.Routes.{stepped, KeepsRoutes};
 ghost use Rattle.its_c.specs.Concerns.{UnconcernedStay, AreConcerned, IsStepCode, IsLentStepCode};
 ghost use Rattle.its_numbers.specs.Replies as replies;
 
 use crate::kept::{Kept, StepError};
 use crate::lent_bytes::{lent_memory, stretches_fit};
 use crate::memory::memory_of;
-use crate::routes::step_leaves_maps;
 use guest_windows::Memory;
 use its_numbers::{DONE, FULL, NO_MEMORY, RANGE, StepOut, StretchOut, step_out};
 use its_types::{MOST_VCPUS, put_bit};
@@ -34,8 +33,8 @@ pub fn step(kept: &mut Kept, alloc: Global, out: &mut StepOut) -> u32
     ensures concerned { result ≡ codes.done
         → AreConcerned out.new.concerned kept.old.machine }
     ensures left { result ≡ codes.done
-        → kept.new ≡ went_on kept.old (plain.step_left kept.old.machine 0)
-        (step_leaves_maps (plain.step_reply kept.old.machine 0)) }
+        → kept.new ≡ stepped kept.old (plain.step_left kept.old.machine 0)
+        (plain.step_reply kept.old.machine 0) }
     ensures routes { KeepsRoutes kept.old kept.new }
     ensures full { result ≡ codes.full → is_full kept.old.limits kept.old.machine ≡ true }
     ensures where_full { is_full kept.old.limits kept.old.machine ≡ true → result ≡ codes.full }
@@ -46,7 +45,7 @@ pub fn step(kept: &mut Kept, alloc: Global, out: &mut StepOut) -> u32
     let concerned = words_of(concerned(kept.machine().parts(), 0));
     match kept.step(alloc) {
         Ok(reply) => {
-            kept.count(step_leaves_maps(&reply));
+            kept.count_step(reply);
             *out = step_out(reply, concerned);
             DONE
         }
@@ -72,8 +71,8 @@ pub fn step_with(
     ensures concerned { result ≡ codes.done
         → AreConcerned out.new.concerned (lent kept.old.machine list.now bytes.now) }
     ensures left { result ≡ codes.done → kept.new
-        ≡ went_on kept.old (lent_left kept.old.machine list.now bytes.now)
-        (step_leaves_maps (plain.step_reply (lent kept.old.machine list.now bytes.now) 0)) }
+        ≡ stepped kept.old (lent_left kept.old.machine list.now bytes.now)
+        (plain.step_reply (lent kept.old.machine list.now bytes.now) 0) }
     ensures routes { KeepsRoutes kept.old kept.new }
     ensures full { result ≡ codes.full
         → is_full kept.old.limits (lent kept.old.machine list.now bytes.now) ≡ true }
@@ -101,8 +100,8 @@ fn step_on(kept: &mut Kept, memory: &Memory, out: &mut StepOut) -> u32
     ensures concerned { result ≡ codes.done
         → AreConcerned out.new.concerned (on memory.now kept.old.machine) }
     ensures left { result ≡ codes.done → kept.new
-        ≡ went_on kept.old (left_on memory.now kept.old.machine 0)
-        (step_leaves_maps (plain.step_reply (on memory.now kept.old.machine) 0)) }
+        ≡ stepped kept.old (left_on memory.now kept.old.machine 0)
+        (plain.step_reply (on memory.now kept.old.machine) 0) }
     ensures routes { KeepsRoutes kept.old kept.new }
     ensures full { result ≡ codes.full
         → is_full kept.old.limits (on memory.now kept.old.machine) ≡ true }
@@ -114,7 +113,7 @@ fn step_on(kept: &mut Kept, memory: &Memory, out: &mut StepOut) -> u32
     let concerned = words_of(concerned_on(kept.machine().parts(), memory, 0));
     match kept.step_on(memory) {
         Ok(reply) => {
-            kept.count(step_leaves_maps(&reply));
+            kept.count_step(reply);
             *out = step_out(reply, concerned);
             DONE
         }

@@ -34,9 +34,11 @@ use Rattle.guest_port.specs.declared.pages.Unheld.{Unheld}
 use Rattle.guest_port.specs.declared.pages.Unheld.TheVariants as unheld
 use Rattle.gicr_lpi.specs.Accesses.{IsOfWrite, WasAsked, access, write_call}
 use Rattle.gicr_lpi.specs.Tries.{TriesParts, FoundNoMemory}
-use Rattle.its_migrate.specs.Tries.{TriesSave, HadNoMemory}
+use Rattle.its_migrate.specs.Tries.{TriesSave, IsGivenUp}
+use Rattle.its_migrate.specs.declared.rule.Unsaved.{Unsaved}
+use Rattle.its_migrate.specs.declared.rule.Unsaved.TheVariants as unsaved
 use Rattle.lpi_pending.specs.Rooms.{is_enable}
-use Rattle.its_shared.specs.Answers.{Answers, answer_of, answer_of_tried, answer_or_none, answer_or_unheld}
+use Rattle.its_shared.specs.Answers.{Answers, answer_of, answer_of_tried, answer_or_none, answer_or_unheld, answer_or_unsaved}
 use Rattle.its_shared.specs.Asked as asked
 use Rattle.its_shared.specs.Knowing.{Known}
 use Rattle.its_shared.specs.declared.answer.Answer.{Answer}
@@ -147,7 +149,8 @@ of_save_made v w (attempt.Busy b) t = (t.3.stays, inl t.3.out)
 of_save_made v w (attempt.Raced r) t = (t.2.stays, inl t.2.out)
 of_save_made v w attempt.Spent t = (t.2.stays, t.2.spent)
 
-pub of_save : (v w : View) (r : Result (Attempt (Result (Unit {0}) SaveFault)) AllocError)
-    → MatchResult r (λ t. TriesSave v w t) (λ _. HadNoMemory v w) → Answers call.Save save_reply v w (answer_or_none r)
+pub of_save : (v w : View) (r : Result (Attempt (Result (Unit {0}) SaveFault)) Unsaved)
+    → MatchResult r (λ t. TriesSave v w t) (λ _. IsGivenUp v w) → Answers call.Save save_reply v w (answer_or_unsaved r)
 of_save v w (Ok a) t = of_save_made v w a t
-of_save v w (Err e) t = (t.2.stays, tt)
+of_save v w (Err unsaved.NoMemory) t = (t.2.stays, tt)
+of_save v w (Err unsaved.Full) t = (t.2.stays, tt)

@@ -10,3 +10,4 @@ pub mod Home
 pub mod Shown
 pub mod Limiting
 pub mod Rooted
+pub mod Counted

@@ -1,6 +1,7 @@
 pub mod Answers
 pub mod Asked
 pub mod Besides
+pub mod Counting
 pub mod Knowing
 pub mod Lending
 pub mod Limits

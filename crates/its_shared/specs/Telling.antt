@@ -15,11 +15,12 @@ use Rattle.its_numbers.specs.Codes as codes
 use Rattle.its_numbers.specs.Faults.{save_fault_out}
 use Rattle.its_numbers.specs.Replies.{step_out, dma_out}
 use Rattle.its_numbers.specs.declared.faults.SaveFaultOut.{SaveFaultOut}
+use Rattle.its_numbers.specs.declared.counters.Counters.{Counters}
 use Rattle.its_numbers.specs.declared.limits.GuestLimits.{GuestLimits}
 use Rattle.its_numbers.specs.declared.replies.DmaOut.{DmaOut}
 use Rattle.its_numbers.specs.declared.replies.StepOut.{StepOut}
 use Rattle.its_shared.specs.Answers.{Answers}
-use Rattle.its_shared.specs.Knowing.{Known, beside}
+use Rattle.its_shared.specs.Knowing.{Known, beside, setting}
 use Rattle.its_shared.specs.declared.answer.Answer.{Answer}
 use Rattle.its_shared.specs.declared.answer.Answer.TheVariants.{Made, Busy, Spent, NoMemory, Full}
 use Rattle.its_shared.specs.declared.pass.Pass.{Pass}
@@ -114,5 +115,9 @@ abbrev pub InPass : Pass → Pass → (Known → Known → Type 0) → Type 0
 InPass before after P = (k l : Known) → before.known ≡ Some k → after.known ≡ Some l → P k l
 
 -- the description of the machine that the pass of a handle is of, and the limits that it keeps to, if it has one
-abbrev pub machine_of : Pass → Option (Desc × GuestLimits)
+abbrev pub setting_of : Pass → Option (Desc × GuestLimits)
+setting_of pass = option_map setting pass.known
+
+-- and what it has counted
+abbrev pub machine_of : Pass → Option (Desc × GuestLimits × ℕ × Counters)
 machine_of pass = option_map beside pass.known

@@ -1,7 +1,7 @@
 //! The calls of a pass, each turn that it needs tried once.
 ghost use Rattle.std.specs.Prelude.{◌≡◌};
 
-use crate::answer::{Answer, answered, answered_held, answered_if, answered_tried};
+use crate::answer::{Answer, answered, answered_held, answered_if, answered_saved, answered_tried};
 use crate::limits::Within;
 use crate::port::Port;
 use cmd_engine::{try_read_reg, try_step_within, try_write_reg};
@@ -9,7 +9,7 @@ use device_port::{Dma, signal_once, try_dma_within};
 use dma_routes::route;
 use gicr_lpi::{try_read_gicr, try_write_gicr};
 use guest_port::{try_peek, try_poke_within};
-use its_migrate::try_save;
+use its_migrate::try_save_within;
 use its_plain::{Ack, Bytes64, Reply, Route, SaveFault, Signal, StepReply};
 use its_types::{Addr, DeviceId, EventId, Intid, Open, Vcpu};
 use redist_ack::{try_best, try_claim, try_show, try_take};
@@ -183,13 +183,15 @@ impl Port {
         answered(try_peek(&self.machine, &mut self.pass, &Open, Addr(address), count))
     }
 
-    /// The tables are written to guest memory.
+    /// The tables are written to guest memory, if no more pages are held for them than may be.
     pub fn save(&mut self, alloc: Global) -> Answer<Result<(), SaveFault>>
         ensures beside { spec.beside self.new ≡ spec.beside self.old }
         ensures answer { Answers call.Save save_reply
             self.old.view self.new.view result }
+        ensures full { result ≡ Full → self.old.limits.memory ≢ no_limit }
     {
-        answered_if(try_save(alloc, &self.machine, &mut self.pass, &Open))
+        let limits = Within(self.limits);
+        answered_saved(try_save_within(alloc, &self.machine, &mut self.pass, &Open, &limits))
     }
 
     /// A requester's write at an address.

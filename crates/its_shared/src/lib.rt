@@ -11,6 +11,10 @@ mod answer;
 mod attempts;
 mod besides;
 mod commands;
+mod count_calls;
+#[cfg(test)]
+mod count_tests;
+mod counting;
 mod event_look;
 mod lent;
 mod limit_calls;

@@ -7,11 +7,12 @@ ghost use Rattle.its_plain.specs.declared.call.Call.TheVariants as call;
 ghost use Rattle.its_plain.specs.declared.call.Reply.TheVariants as reply;
 ghost use Rattle.its_shared.specs.Asked as asked;
 ghost use Rattle.its_shared.specs.Asked.{is_count};
+ghost use Rattle.its_shared.specs.Counting.{Counts, KeepsRoutes};
 ghost use Rattle.its_shared.specs.Limits.{StepsWithin};
 ghost use Rattle.its_shared.specs.Telling.{read_code};
 ghost use Rattle.its_shared.specs.Telling.{InPass, Tells, as_told, bytes_told, is_done, machine_of};
 ghost use Rattle.its_shared.specs.Telling.{nothing_told, save_code, save_told, step_told};
-ghost use Rattle.its_shared.specs.Telling.{write_code};
+ghost use Rattle.its_shared.specs.Telling.{setting_of, write_code};
 
 use crate::commands::{read_memory, save, step, write_memory};
 use crate::pass::Pass;
@@ -23,10 +24,12 @@ use std::alloc::Global;
 pub extern "C" fn its_pass_step(pass: &mut Pass, place: &mut u64, out: &mut StepOut) -> u32
     ensures empty { pass.old.known ≡ None
         → (result ≡ codes.handle) × (place.new ≡ place.old) × (out.new ≡ out.old) }
-    ensures kept { machine_of pass.new ≡ machine_of pass.old }
+    ensures kept { setting_of pass.new ≡ setting_of pass.old }
     ensures told { InPass pass.old pass.new (λ k l. Tells is_done (as_told step_told) asked.step
         reply.Step k l result place.old place.new out.old out.new) }
     ensures within { InPass pass.old pass.new (λ k l. StepsWithin k l result) }
+    ensures counts { InPass pass.old pass.new (λ k l. Counts k l result) }
+    ensures routes { InPass pass.old pass.new (λ k l. KeepsRoutes k l result) }
 {
     if pass.is_empty() {
         return HANDLE;
@@ -47,6 +50,8 @@ pub extern "C" fn its_pass_save(
     ensures kept { machine_of pass.new ≡ machine_of pass.old }
     ensures told { InPass pass.old pass.new (λ k l. Tells save_code save_told call.Save
         save_reply k l result place.old place.new out.old out.new) }
+    ensures full { InPass pass.old pass.new (λ k l.
+        result ≡ codes.full → k.limits.memory ≢ no_limit) }
 {
     if pass.is_empty() {
         return HANDLE;
