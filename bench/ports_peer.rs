@@ -45,8 +45,6 @@ const TABLE_BYTES: usize = 0x1_0000;
 const DEVICES: [u32; 4] = [16, 32, 48, 64];
 const EVENTS: u32 = 16;
 const WIDE: u32 = 7;
-// A commit that another call overtook is tried by so many exchanges, the first among them.
-const EXCHANGES: u8 = 16;
 
 #[derive(Clone, Copy)]
 struct Target {
@@ -242,30 +240,6 @@ impl Machine {
         self.words[0].compare_exchange(word, new, SeqCst, SeqCst).is_ok()
     }
 
-    // Where another call was made first that left the stamp, tries again at once, as the machine that threads share does.
-    #[inline]
-    fn commit_again(&self, word: u64) -> Option<u64> {
-        match self.words[0].compare_exchange(word, word + 1, SeqCst, SeqCst) {
-            Ok(_) => Some(place_of(word)),
-            Err(found) => self.commit_further(word, found),
-        }
-    }
-
-    #[cold]
-    #[inline(never)]
-    fn commit_further(&self, first: u64, mut word: u64) -> Option<u64> {
-        for _ in 1..EXCHANGES {
-            if stamp_of(word) != stamp_of(first) {
-                return None;
-            }
-            match self.words[0].compare_exchange(word, word + 1, SeqCst, SeqCst) {
-                Ok(_) => return Some(place_of(word)),
-                Err(found) => word = found,
-            }
-        }
-        None
-    }
-
     #[inline(never)]
     fn try_signal(&self, me: u64, dev: u32, ev: u32) -> Made<Target> {
         let word = self.words[0].load(SeqCst);
@@ -280,13 +254,13 @@ impl Machine {
             self.put(part, Slot::Shard(shard));
             return Made::Busy;
         };
-        let made = self.commit_again(word);
-        if made.is_some() {
+        let made = self.commit(word, stamp_of(word));
+        if made {
             redist.put(target.intid, true);
         }
         self.put(at, Slot::Redist(redist));
         self.put(part, Slot::Shard(shard));
-        made.map_or(Made::Raced, |place| Made::Done(place, target))
+        if made { Made::Done(place_of(word), target) } else { Made::Raced }
     }
 
     #[inline(never)]
@@ -310,15 +284,15 @@ impl Machine {
             return Made::Busy;
         };
         let word = self.words[0].load(SeqCst);
-        let made = self.commit_again(word);
-        if made.is_some() {
+        let made = self.commit(word, stamp_of(word));
+        if made {
             redist.put(target.intid, true);
             fill(&mut shard, dev, ev, stamp_of(word), target);
         }
         self.put(at, Slot::Redist(redist));
         self.put(part, Slot::Shard(shard));
         self.put(MAPS, Slot::Maps(maps));
-        made.map_or(Made::Raced, |place| Made::Done(place, target))
+        if made { Made::Done(place_of(word), target) } else { Made::Raced }
     }
 
     fn signal(&self, me: u64, dev: u32, ev: u32) -> (u64, Target) {
@@ -349,8 +323,8 @@ impl Machine {
         let mut redist = self.take_redist(at, me)?;
         let lowest = redist.lowest();
         let word = self.words[0].load(SeqCst);
-        let made = self.commit_again(word);
-        if let (Some(_), Some(intid)) = (made, lowest) {
+        let made = self.commit(word, stamp_of(word));
+        if let (true, Some(intid)) = (made, lowest) {
             redist.put(intid, false);
         }
         self.put(at, Slot::Redist(redist));
@@ -383,7 +357,7 @@ impl Machine {
     fn poke(&self, me: u64, at: usize, bytes: &[u8]) -> bool {
         let Some(Slot::Memory(mut memory)) = self.take_turn(MEMORY, me) else { return false };
         let word = self.words[0].load(SeqCst);
-        let made = self.commit_again(word).is_some();
+        let made = self.commit(word, stamp_of(word));
         if made {
             memory[at..][..bytes.len()].copy_from_slice(bytes);
         }

@@ -32,7 +32,7 @@ extern "C" {
 #endif
 
 /* Counts the changes of this file after which a caller is built anew. */
-#define ITS_VERSION 6
+#define ITS_VERSION 5
 
 /* What a call answers. */
 enum its_answer {
@@ -400,16 +400,6 @@ uint32_t its_forget(struct its_handle *handle, uint64_t address, uint64_t length
  * address on and before the page are zero. ITS_HANDLE.
  */
 uint32_t its_next_page(struct its_handle *handle, uint64_t from, struct its_stretch_out *out);
-
-/*
- * Guest memory gets another window, of zeros, as where memory is plugged in: from now on it is as one of
- * those that the machine was made with, and takes no page until something is written there. ITS_FAULT with
- * `fault`, whose kind is ITS_MAKE_ITS_BASE where it shares a byte with the frames, and else
- * ITS_MAKE_WINDOWS, where there are 16 windows, or it has no byte, ends past 2^52 or shares a byte with
- * another. ITS_NO_MEMORY, ITS_HANDLE.
- */
-uint32_t its_add_window(struct its_handle *handle, uint64_t base, uint64_t length,
-                        struct its_make_fault_out *fault);
 
 /* A device's message. It takes no memory of the host. ITS_HANDLE. */
 uint32_t its_signal(struct its_handle *handle, uint32_t device, uint32_t event,

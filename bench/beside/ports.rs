@@ -3,7 +3,7 @@
 
 use super::parts::{drafts, lay, write_command, Command, Config, Maps, Whole};
 use super::Shared;
-use crate::{fill, find, pause, place_of, shard_part, stamp_of, Pages, Redist, Shard, Target, EXCHANGES, MAPS, MEMORY, SHARDS};
+use crate::{fill, find, pause, place_of, shard_part, stamp_of, Pages, Redist, Shard, Target, MAPS, MEMORY, SHARDS};
 use std::cell::UnsafeCell;
 use std::hint::black_box;
 use std::sync::atomic::{AtomicU64, Ordering::SeqCst};
@@ -92,31 +92,7 @@ impl Ports {
         self.words[0].compare_exchange(word, new, SeqCst, SeqCst).is_ok()
     }
 
-    // Where another call was made first that left the stamp, tries again at once, as the machine that threads share does.
-    #[inline]
-    fn commit_again(&self, word: u64) -> Option<u64> {
-        match self.words[0].compare_exchange(word, word + 1, SeqCst, SeqCst) {
-            Ok(_) => Some(place_of(word)),
-            Err(found) => self.commit_further(word, found),
-        }
-    }
-
-    #[cold]
-    #[inline(never)]
-    fn commit_further(&self, first: u64, mut word: u64) -> Option<u64> {
-        for _ in 1..EXCHANGES {
-            if stamp_of(word) != stamp_of(first) {
-                return None;
-            }
-            match self.words[0].compare_exchange(word, word + 1, SeqCst, SeqCst) {
-                Ok(_) => return Some(place_of(word)),
-                Err(found) => word = found,
-            }
-        }
-        None
-    }
-
-    // A command, of whatever turns it has.
+    // Of whatever turns the call has.
     fn committed(&self, rise: u32) -> Option<u64> {
         let word = self.words[0].load(SeqCst);
         self.commit(word, stamp_of(word) + rise).then(|| place_of(word))
@@ -136,13 +112,13 @@ impl Ports {
             self.put(part, Slot::Shard(shard));
             return Tried::Busy;
         };
-        let made = self.commit_again(word);
-        if made.is_some() {
+        let made = self.commit(word, stamp_of(word));
+        if made {
             pending.put(target.intid, true);
         }
         self.put(at, Slot::Pending(pending));
         self.put(part, Slot::Shard(shard));
-        made.map_or(Tried::Raced, |place| Tried::Done((place, target)))
+        if made { Tried::Done((place_of(word), target)) } else { Tried::Raced }
     }
 
     #[inline(never)]
@@ -165,14 +141,14 @@ impl Ports {
             return Tried::Busy;
         };
         let word = self.words[0].load(SeqCst);
-        let made = self.commit_again(word);
-        if made.is_some() {
+        let made = self.commit(word, stamp_of(word));
+        if made {
             pending.put(target.intid, true);
             fill(&mut shard, dev, ev, stamp_of(word), target);
         }
         self.put(at, Slot::Pending(pending));
         self.put(part, Slot::Shard(shard));
-        made.map_or(Tried::Raced, |place| Tried::Done((place, target)))
+        if made { Tried::Done((place_of(word), target)) } else { Tried::Raced }
     }
 
     #[inline(never)]
@@ -266,7 +242,7 @@ impl Ports {
             return Tried::Busy;
         };
         let lowest = config.lowest(&pending);
-        let made = self.commit_again(self.words[0].load(SeqCst));
+        let made = self.committed(0);
         if let (Some(_), Some(intid)) = (made, lowest) {
             pending.put(intid, false);
         }
@@ -310,9 +286,9 @@ impl Ports {
             let word = self.words[0].load(SeqCst);
             let drafts = drafts(memory, maps, hand[..self.vcpus].iter().flatten().map(|pending| &**pending));
             tried = Tried::Raced;
-            if let Some(place) = self.commit_again(word) {
+            if self.commit(word, stamp_of(word)) {
                 lay(memory, drafts);
-                tried = Tried::Done(place);
+                tried = Tried::Done(place_of(word));
             }
         }
         for vcpu in (0..self.vcpus).rev() {

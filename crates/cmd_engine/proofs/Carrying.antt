@@ -1,5 +1,5 @@
 -- A step's command on what is in hand: what each of its calls needs, and what it leaves.
-use Rattle.std.proofs.Common.{◌≡◌, ◌<◌, ℕ, Bool, true, false, not, ◌&&◌, ◌||◌, nat_lt, List, [], ◌∷◌, length, Option, Some, Result, Ok, Err, refl, ap, sym, ◌∙◌, subst}
+use Rattle.std.proofs.Common.{◌≡◌, ◌<◌, ℕ, Bool, true, false, not, ◌&&◌, nat_lt, List, [], ◌∷◌, length, Option, Some, Result, Ok, Err, refl, ap, sym, ◌∙◌, subst}
 use Rattle.std.specs.List.{AllByRecursion}
 use Rattle.std.specs.Prelude.{is_some, is_ok, Box}
 use Rattle.std.specs.Global.{Global}
@@ -34,10 +34,9 @@ use Rattle.lpi_pending.specs.InHand.{RedistParts, conf_in, pend_in, HasLpisOfCon
 use Rattle.owned_parts.specs.Owned.{ArePartsOf, ArePartsOfSound, translator_of}
 use Rattle.cmd_exec.proofs.Lifted.{conf_is, pend_is}
 use Rattle.owned_parts.specs.RedistSets.{is_in}
-use Rattle.owned_parts.specs.declared.redist_set.RedistSet.{RedistSet}
 use Rattle.cmd_exec.specs.Executed.{as_step, IsReplyTo, AreLeftBy}
 use Rattle.cmd_exec.specs.Met.{MeetsCommand}
-use Rattle.cmd_exec.specs.Needs.{IsPartOf, ArePartsOfStep}
+use Rattle.cmd_exec.specs.Needs.{IsPartOf}
 use Rattle.cmd_exec.specs.Room.{adds_to}
 use Rattle.its_steps.specs.Contents.{Maps, Mem, Conf, Pend, Held}
 use Rattle.its_steps.specs.Endings.{Ending, ending_in, ending_of, ending_told}
@@ -59,17 +58,14 @@ use Rattle.held_parts.specs.Redists.{row_of, conf_held, pend_held, confs_held, A
 use Rattle.held_parts.proofs.RedistRows.{conf_kind, pend_kind, part_holds, parts_renewed}
 use Rattle.its_steps.specs.World.{out as out_of}
 use Rattle.cmd_engine.specs.Cached.{ending_as, ending_said, cached_held, AreWhole, commit_of, LeavesBy, MayMarkSaid, AreChanged}
-use Rattle.cmd_engine.specs.Concern.{Concerns}
 use Rattle.cmd_engine.specs.Hands.{Memory, redists_of, memory_held, base_held, redists_held, all_held, windows_of, HasRoom, HasInHand, HasNeeded}
 use Rattle.cmd_engine.specs.Rules.{Rule, is_forbidden, met_forbidden, has_run}
 use Rattle.cmd_engine.specs.Telling.{WantsMemory}
 use Rattle.cmd_engine.specs.declared.cached.Cached.{Cached}
 use Rattle.cmd_engine.specs.declared.cached.Mark.{Mark}
 use Rattle.cmd_engine.specs.declared.hands.Hands.{Hands}
-use Rattle.cmd_engine.proofs.Concerning.{command_concerns}
 use Rattle.cmd_engine.proofs.Held.{all_out, holds_maps, holds_base, holds_redists, holds_read, holds_cached}
-use Rattle.cmd_engine.proofs.InState.{AreOut, HoldsBase, HoldsRedists, translator_is, track_is, shape_is, parts, busy, bytes_are, needs_is, replied}
-use Rattle.cmd_engine.proofs.InState.{parts_left, command_ready, command_ends}
+use Rattle.cmd_engine.proofs.InState.{AreOut, HoldsBase, HoldsRedists, translator_is, track_is, parts, busy, bytes_are, parts_left, command_ready, command_ends}
 use Rattle.cmd_engine.proofs.Marks.{HoldsShards, marked_may, within_after, holds_shards, Makes, stays_makes, mark_makes}
 use Rattle.cmd_engine.proofs.Reading.{state_machine, state_right, read_held, read_setup, read_within, owed_after}
 use Rattle.cmd_engine.proofs.Tracks.{track_after}
@@ -216,20 +212,6 @@ module _ (s : Setup) (stamps : HasStamps s) (v : View) (h : Hands) (has : HasInH
 
       ready : IsReady s u w (call.Step its) r held
       ready = command_ready s u w held m right out its t memory track base rs hand cmd meets h.needed needed.parts holds said replies_here room
-
-      -- whom it concerns
-      needed_here : ArePartsOfStep u.layout.shape (maps_of u its) cmd h.needed
-      needed_here =
-          let shape_here : s.start.layout.shape ≡ u.layout.shape = sym (shape_is s u w held m right out its t memory track base) in
-          let maps_here : t.maps ≡ maps_of u its = ap (λ (y : Translator). y.maps) (sym (translator_is s u w held m right out its t memory track base)) in
-          subst (λ (z : Shape × MapsOf). ArePartsOfStep z.0 z.1 cmd h.needed) (λ d. (shape_here d, maps_here d)) needed.parts
-
-      pub concerns_so : (set : RedistSet) → ((v : ℕ) → is_in set v ≡ (has_run said && (is_in h.needed.confs v || is_in h.needed.pends v)))
-          → Concerns (after s.start x.seen) its set
-      concerns_so set members = subst (λ (y : Setup). Concerns (after y.start x.seen) its set) own
-          (command_concerns u its (record { vcpus = m.sound.vcpus }) cmd h.needed
-          (needs_is s u w held m right out its t memory track base rs hand cmd meets h.needed needed.parts holds said replies_here) needed_here said
-          (replied s u w held m right out its t memory track base rs hand cmd meets h.needed needed.parts holds said replies_here) set members)
 
       told_said : (k : CmdReply) → ending_told t.maps cmd (as_step k) ≡ ending_said h.cached k
       told_said (answers.Ran op) = ends

@@ -113,7 +113,7 @@ module _ (s : Setup) (u : Plain) (w : Word) (held : List Held) (machine : IsOfMa
   pub track_is : u.track ≡ track
   track_is = (owes_all (Right s w u) part.Mem (Mem memory track) held base.mem right).1
 
-  pub shape_is : u.layout.shape ≡ s.start.layout.shape
+  shape_is : u.layout.shape ≡ s.start.layout.shape
   shape_is = ap (λ (l : Layout). l.shape) (sym machine.layout)
 
   ready_from : (r : StepReply) → w.place < s.limits.place_last → IsAnswered u (call.Step its) (reply.Step r) held
@@ -150,9 +150,6 @@ module _ (s : Setup) (u : Plain) (w : Word) (held : List Held) (machine : IsOfMa
 
     pub still_allowed : (q : Rule) → is_forbidden q u its ≡ false
     still_allowed = still.allowed
-
-    pub still_stays : step_left u its ≡ u
-    still_stays = still.left_is
 
     pub still_left : left u (call.Step its) (reply.Step r) ≡ u
     unfolding left
@@ -201,7 +198,7 @@ module _ (s : Setup) (u : Plain) (w : Word) (held : List Held) (machine : IsOfMa
 
     module _ (n : Needed) (needs : ArePartsOfStep s.start.layout.shape t.maps c n) (has : (p : Part) → IsPartOf its n p → Holds p held) (said : CmdReply)
         (replies : IsReplyTo c s.start.layout.shape t.regs t.maps memory redists said) where
-      pub needs_is : needed_next u its ≡ needed u its c
+      needs_is : needed_next u its ≡ needed u its c
       needs_is = rw (busy, bytes_are, meets.command) refl
 
       covers : AllByRecursion (λ p. Holds p held) (footprint u (call.Step its))
@@ -210,7 +207,7 @@ module _ (s : Setup) (u : Plain) (w : Word) (held : List Held) (machine : IsOfMa
           (from_each (λ p. Holds p held) (part.Maps its ∷ part.Mem ∷ needed u its c)
           (λ p at. has p ((needs u its shape_is (ap (λ (x : Translator). x.maps) translator_is) p).0 at)))
 
-      pub replied : as_step said ≡ step_reply u its
+      replied : as_step said ≡ step_reply u its
       unfolding step_reply
       replied = replies u its parts
           ∙ (ap (λ (x : Command). command_reply (op_of x) (ran u its x)) (sym meets.command)

@@ -12,4 +12,3 @@ pub mod Getting
 pub mod Trying
 pub mod Kept
 pub mod Ruled
-pub mod Concerning

@@ -25,15 +25,12 @@ use Rattle.its_steps.specs.declared.commit.Commit.{Commit}
 use Rattle.its_turns.specs.Machines.{AreWithin}
 use Rattle.its_turns.specs.Told.{Looks, Commits}
 use Rattle.its_turns.specs.declared.value.GuestMemory.{GuestMemory}
-use Rattle.owned_parts.specs.declared.redist_set.RedistSet.TheVariants.{Nothing as NoRedist}
 use Rattle.cmd_engine.specs.Cached.{commit_of, mark_of, LeavesBy}
-use Rattle.cmd_engine.specs.Concern.{Concerns}
 use Rattle.cmd_engine.specs.Hands.{all_held, windows_of, HasInHand}
 use Rattle.cmd_engine.specs.Rules.{Rule, is_forbidden}
 use Rattle.cmd_engine.specs.declared.hands.Hands.{Hands}
 use Rattle.cmd_engine.proofs.Held.{all_out, holds_maps, holds_base}
-use Rattle.cmd_engine.proofs.Concerning.{nobody}
-use Rattle.cmd_engine.proofs.InState.{AreOut, HoldsBase, still_ready, still_ends, still_stays, still_left, still_allowed}
+use Rattle.cmd_engine.proofs.InState.{AreOut, HoldsBase, still_ready, still_ends, still_left, still_allowed}
 use Rattle.cmd_engine.proofs.Marks.{HoldsShards, marked_may, within_after}
 use Rattle.cmd_engine.proofs.Reading.{state_machine, state_right, read_held, read_setup, read_within, owed_after, renewed_same}
 
@@ -85,11 +82,6 @@ module _ (s : Setup) (stamps : HasStamps s) (v : View) (h : Hands) (has : HasInH
   pub still_keeps : (q : Rule) → is_forbidden q (after s.start x.seen) its ≡ false
   still_keeps q = ap (λ (y : Setup). is_forbidden q (after y.start x.seen) its) (sym own)
       ∙ still_allowed s u w held m right out its t b.value.memory b.value.track base k none q
-
-  -- it concerns nobody
-  pub still_concerns : Concerns (after s.start x.seen) its NoRedist
-  still_concerns = subst (λ (y : Setup). Concerns (after y.start x.seen) its NoRedist) own
-      (nobody u its (still_stays s u w held m right out its t b.value.memory b.value.track base k none))
 
   pub still_leaves : LeavesBy s its (ending_of u (call.Step its)) w (mark_of w.stamp change.Keep)
   still_leaves = subst (λ (e : Ending). LeavesBy s its e w (mark_of w.stamp change.Keep)) (sym ends) (refl, refl)

@@ -1,5 +1,5 @@
 -- What a call has in hand, as parts held.
-use Rattle.std.specs.Prelude.{◌≡◌, ◌⊎◌, ◌<◌, ℕ, true, List, [], ◌∷◌, length, Option, Some, None, is_some, Box}
+use Rattle.std.specs.Prelude.{◌≡◌, ◌<◌, ℕ, true, List, [], ◌∷◌, length, Option, Some, None, is_some, Box}
 use Rattle.std.specs.Global.{Global}
 use Rattle.guest_windows.specs.Windows.{Window}
 use Rattle.its_command.specs.declared.command.Command.{Command}
@@ -9,7 +9,6 @@ use Rattle.cmd_exec.specs.Needs.{needs_conf, needs_pend, ArePartsOfStep}
 use Rattle.lpi_pending.specs.InHand.{RedistParts, AreEmpty, no_redists}
 use Rattle.owned_parts.specs.Owned.{translator_of}
 use Rattle.owned_parts.specs.RedistSets.{is_in}
-use Rattle.owned_parts.specs.declared.redist_set.RedistSet.TheVariants.{Nothing}
 use Rattle.its_steps.specs.Contents.{Maps, Mem, Held}
 use Rattle.its_steps.specs.Parts.{Setup, translator_count, vcpu_count}
 use Rattle.its_steps.specs.World.{View, out}
@@ -110,7 +109,6 @@ pub record HasNeeded (s : Setup) (c : Command) (h : Hands) : Type 0 where
   pub pends : (vcpu : ℕ) → is_in h.needed.pends vcpu ≡ needs_pend s.start.layout.shape h.translator.value.maps.maps c vcpu
   pub confs_below : (vcpu : ℕ) → is_in h.needed.confs vcpu ≡ true → vcpu < vcpu_count s
   pub pends_below : (vcpu : ℕ) → is_in h.needed.pends vcpu ≡ true → vcpu < vcpu_count s
-  pub one_kind : (h.needed.confs ≡ Nothing) ⊎ (h.needed.pends ≡ Nothing)
 
 -- ---- the parts whose turns a call may get
 

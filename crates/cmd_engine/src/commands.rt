@@ -1,12 +1,12 @@
 //! A step that met a command.
 ghost use Rattle.std.specs.Prelude.{◌≡◌, ◌<◌, true, is_some, MatchOption};
 ghost use Rattle.its_plain.specs.declared.call.Call.TheVariants as call;
+ghost use Rattle.its_plain.specs.declared.call.Reply.TheVariants as reply;
 ghost use Rattle.its_steps.specs.Endings.{ending_in};
 ghost use Rattle.its_steps.specs.Parts.{translator_count, stamp_of};
 ghost use Rattle.its_turns.specs.Machines.{setup, view, IsOf, AreWithin};
 ghost use Rattle.cmd_exec.specs.Met.{MeetsCommand};
 ghost use Rattle.cmd_engine.specs.Cached.{ending_as, IsAny, MayMarkSaid};
-ghost use Rattle.cmd_engine.specs.Concern.{step_said, TellsMade};
 ghost use Rattle.cmd_engine.specs.Hands.{HasInHand, HasNeeded, IsOfStep, windows_of};
 ghost use Rattle.cmd_engine.specs.Rules.{KeepsTo};
 ghost use Rattle.cmd_engine.specs.Telling.{ComesFromShards};
@@ -16,10 +16,9 @@ use crate::commits::commit_marked;
 use crate::hands::Hands;
 use crate::missed::Missed;
 use crate::rule::{MapRule, is_forbidden};
-use crate::stepped::{Stepped, concerned_by};
 use cmd_exec::{apply, make_room, plan};
 use its_command::Command;
-use its_plain::{Call, CmdReply, Reply};
+use its_plain::{Call, CmdReply, Reply, StepReply};
 use its_turns::{GuestMemory, Machine, Pass, begin};
 use its_types::{Gate, Placed, Word};
 
@@ -32,7 +31,7 @@ pub(crate) fn make_command<G: Gate, L: MapRule>(
     command: &Command,
     hands: &mut Hands,
     rule: &L,
-) -> Result<Placed<Stepped>, Missed>
+) -> Result<Placed<StepReply>, Missed>
     requires of { IsOf machine.now pass.old }
     requires hands { HasInHand (setup machine.now) (view pass.old) hands.old }
     requires memory { is_some hands.old.memory ≡ true }
@@ -45,10 +44,9 @@ pub(crate) fn make_command<G: Gate, L: MapRule>(
     ensures hands { HasInHand (setup machine.now) (view pass.new) hands.new }
     ensures tries { (view pass.new).tries ≡ (view pass.old).tries }
     ensures comes { ComesFromShards hands.old.cached (IsOfStep hands.old.its) (view pass.old)
-        (call.Step hands.old.its) step_said (view pass.new) result }
+        (call.Step hands.old.its) reply.Step (view pass.new) result }
     ensures rule { KeepsTo (L.forbidden rule.now) (setup machine.now).start hands.old.its
         (view pass.new).seen result }
-    ensures tells { TellsMade (setup machine.now).start hands.old.its (view pass.new).seen result }
 {
     let Ok(word) = begin(machine, pass) else {
         return Err(Missed::Spent);
@@ -96,8 +94,6 @@ pub(crate) fn make_command<G: Gate, L: MapRule>(
         shape,
     );
     hands.cached.change(mark.change);
-    let concerned = concerned_by(said, hands.needed);
-    let reply = Stepped { reply, concerned };
     Ok(Placed { place, reply })
 }
 

@@ -13,7 +13,6 @@ mod hands;
 mod missed;
 mod reads;
 mod rule;
-mod stepped;
 mod steps;
 mod still;
 mod taking;
@@ -25,10 +24,7 @@ mod writing;
 
 pub use reads::{read_at, read_reg, try_read_at, try_read_reg};
 pub use rule::MapRule;
-pub use stepped::Stepped;
 pub use steps::{step, step_at};
 pub use tried::Tried;
-pub use tries::{
-    try_step, try_step_at, try_step_told, try_step_within, try_write_at, try_write_reg,
-};
+pub use tries::{try_step, try_step_at, try_step_within, try_write_at, try_write_reg};
 pub use writes::{write_at, write_reg};

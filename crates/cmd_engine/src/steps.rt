@@ -2,6 +2,7 @@
 ghost use Rattle.std.specs.Prelude.{◌≡◌, ◌<◌, ◌∷◌, [], Some};
 ghost use Rattle.its_types.specs.declared.machine.Part.TheVariants as part;
 ghost use Rattle.its_plain.specs.declared.call.Call.TheVariants as call;
+ghost use Rattle.its_plain.specs.declared.call.Reply.TheVariants as reply;
 ghost use Rattle.lpi_pending.specs.InHand.{AreEmpty};
 ghost use Rattle.owned_parts.specs.Owned.{translator_of};
 ghost use Rattle.its_steps.specs.Contents as content;
@@ -9,7 +10,6 @@ ghost use Rattle.its_steps.specs.Parts.{translator_count, vcpu_count};
 ghost use Rattle.its_steps.specs.World.{out};
 ghost use Rattle.its_turns.specs.Machines.{setup, view, IsOf};
 ghost use Rattle.its_turns.specs.Told.{HasStood};
-ghost use Rattle.cmd_engine.specs.Concern.{step_said};
 ghost use Rattle.cmd_engine.specs.Hands.{HasInHand, IsBase, IsOfStep, memory_held};
 ghost use Rattle.cmd_engine.specs.Rules.{NeverFull};
 ghost use Rattle.cmd_engine.specs.Telling.{Comes, ComesFrom, Steps};
@@ -18,7 +18,6 @@ use crate::commands::make_command;
 use crate::hands::{Hands, put_taken};
 use crate::missed::Missed;
 use crate::rule::NoRule;
-use crate::stepped::Stepped;
 use crate::still::make_still;
 use crate::taking::take_needed;
 use cmd_exec::{Met, meet};
@@ -52,12 +51,7 @@ pub fn step_at<R: Wait, G: Gate>(
     for _ in rt.forever() {
         attempt = attempt.saturating_add(1);
         match step_once(rt, machine, pass, gate, its) {
-            Ok(placed) => {
-                return Ok(Placed {
-                    place: placed.place,
-                    reply: placed.reply.reply,
-                });
-            }
+            Ok(placed) => return Ok(placed),
             Err(Missed::Spent) => return Err(NotMade::Spent),
             Err(Missed::NoMemory) => return Err(NotMade::NoMemory),
             Err(Missed::Full) => unreachable!(),
@@ -99,13 +93,13 @@ fn step_once<R: Wait, G: Gate>(
     pass: &mut Pass,
     gate: &G,
     its: u8,
-) -> Result<Placed<Stepped>, Missed>
+) -> Result<Placed<StepReply>, Missed>
     requires of { IsOf machine.now pass.old }
     requires its { its < translator_count (setup machine.now) }
     requires free { (view pass.old).held ≡ [] }
     ensures of { IsOf machine.now pass.new }
     ensures free { (view pass.new).held ≡ [] }
-    ensures comes { Comes (IsOfStep its) (view pass.old) (call.Step its) step_said
+    ensures comes { Comes (IsOfStep its) (view pass.old) (call.Step its) reply.Step
         (view pass.new) result }
     ensures never_full { NeverFull result }
 {
@@ -125,7 +119,7 @@ fn step_held<R: Wait, G: Gate>(
     its: u8,
     translator: Box<Translator>,
     memory: Box<GuestMemory>,
-) -> Result<Placed<Stepped>, Missed>
+) -> Result<Placed<StepReply>, Missed>
     requires of { IsOf machine.now pass.old }
     requires its { its < translator_count (setup machine.now) }
     requires held { (view pass.old).held ≡ memory_held (Some memory)
@@ -135,7 +129,7 @@ fn step_held<R: Wait, G: Gate>(
     requires room { AreEmpty (vcpu_count (setup machine.now)) memory.value.redists }
     ensures of { IsOf machine.now pass.new }
     ensures free { (view pass.new).held ≡ [] }
-    ensures comes { ComesFrom (IsOfStep its) (view pass.old) (call.Step its) step_said
+    ensures comes { ComesFrom (IsOfStep its) (view pass.old) (call.Step its) reply.Step
         (view pass.new) result }
     ensures never_full { NeverFull result }
 {
@@ -158,7 +152,7 @@ fn step_with<R: Wait, G: Gate>(
     pass: &mut Pass,
     gate: &G,
     hands: &mut Hands,
-) -> Result<Placed<Stepped>, Missed>
+) -> Result<Placed<StepReply>, Missed>
     requires of { IsOf machine.now pass.old }
     requires hands { HasInHand (setup machine.now) (view pass.old) hands.old }
     requires base { IsBase hands.old }
@@ -167,7 +161,7 @@ fn step_with<R: Wait, G: Gate>(
     ensures of { IsOf machine.now pass.new }
     ensures hands { HasInHand (setup machine.now) (view pass.new) hands.new }
     ensures comes { ComesFrom (IsOfStep hands.old.its) (view pass.old) (call.Step hands.old.its)
-        step_said (view pass.new) result }
+        reply.Step (view pass.new) result }
     ensures never_full { NeverFull result }
 {
     let Some(memory) = &hands.memory else {

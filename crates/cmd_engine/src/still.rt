@@ -1,9 +1,9 @@
 //! A step that meets no command.
 ghost use Rattle.std.specs.Prelude.{◌≡◌};
 ghost use Rattle.its_plain.specs.declared.call.Call.TheVariants as call;
+ghost use Rattle.its_plain.specs.declared.call.Reply.TheVariants as reply;
 ghost use Rattle.its_turns.specs.Machines.{setup, view, IsOf};
 ghost use Rattle.cmd_exec.specs.Met.{MeetsNone};
-ghost use Rattle.cmd_engine.specs.Concern.{step_said, TellsMade};
 ghost use Rattle.cmd_engine.specs.Hands.{HasInHand, IsBase, IsOfStep, windows_of};
 ghost use Rattle.cmd_engine.specs.Rules.{KeepsTo, Rule};
 ghost use Rattle.cmd_engine.specs.Telling.{ComesFrom};
@@ -12,11 +12,9 @@ use crate::cached::Mark;
 use crate::commits::commit_marked;
 use crate::hands::Hands;
 use crate::missed::Missed;
-use crate::stepped::Stepped;
 use its_plain::{Call, Reply, StepReply};
 use its_turns::{Machine, Pass, begin};
 use its_types::{Gate, Placed};
-use owned_parts::RedistSet;
 
 /// The translator is idle, or there is no memory where its command should be. Nothing is changed.
 pub(crate) fn make_still<G: Gate>(
@@ -25,7 +23,7 @@ pub(crate) fn make_still<G: Gate>(
     gate: &G,
     said: StepReply,
     hands: &Hands,
-) -> Result<Placed<Stepped>, Missed>
+) -> Result<Placed<StepReply>, Missed>
     requires of { IsOf machine.now pass.old }
     requires hands { HasInHand (setup machine.now) (view pass.old) hands.now }
     requires base { IsBase hands.now }
@@ -34,10 +32,9 @@ pub(crate) fn make_still<G: Gate>(
     ensures hands { HasInHand (setup machine.now) (view pass.new) hands.now }
     ensures tries { (view pass.new).tries ≡ (view pass.old).tries }
     ensures comes { ComesFrom (IsOfStep hands.now.its) (view pass.old) (call.Step hands.now.its)
-        step_said (view pass.new) result }
+        reply.Step (view pass.new) result }
     ensures rule { (r : Rule) → KeepsTo r (setup machine.now).start hands.now.its
         (view pass.new).seen result }
-    ensures tells { TellsMade (setup machine.now).start hands.now.its (view pass.new).seen result }
 {
     let Ok(word) = begin(machine, pass) else {
         return Err(Missed::Spent);
@@ -48,12 +45,5 @@ pub(crate) fn make_still<G: Gate>(
         Ok(place) => place,
         Err(missed) => return Err(missed),
     };
-    let concerned = RedistSet::Nothing;
-    Ok(Placed {
-        place,
-        reply: Stepped {
-            reply: said,
-            concerned,
-        },
-    })
+    Ok(Placed { place, reply: said })
 }

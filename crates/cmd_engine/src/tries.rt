@@ -10,7 +10,6 @@ ghost use Rattle.its_steps.specs.Parts.{translator_count, vcpu_count};
 ghost use Rattle.its_steps.specs.World.{out};
 ghost use Rattle.its_turns.specs.Machines.{setup, view, IsOf};
 ghost use Rattle.its_turns.specs.Told.{HasStood};
-ghost use Rattle.cmd_engine.specs.Concern.{step_said, TellsOnce, TellsOthers, TellsConcerned};
 ghost use Rattle.cmd_engine.specs.Hands.{HasInHand, IsBase, IsOwn, memory_held};
 ghost use Rattle.cmd_engine.specs.Hands.{IsOfTranslator, IsOfStep};
 ghost use Rattle.cmd_engine.specs.Registers.{write_call};
@@ -22,7 +21,6 @@ use crate::commands::make_command;
 use crate::hands::{Hands, put_taken};
 use crate::missed::Missed;
 use crate::rule::{MapRule, NoRule};
-use crate::stepped::{Stepped, untold};
 use crate::still::make_still;
 use crate::taking_once::{once_cached, once_needed};
 use crate::tried::{Tried, outcome};
@@ -70,36 +68,6 @@ pub fn try_step_within<G: Gate, L: MapRule>(
     ensures rule { KeepsTried (L.forbidden rule.now) (setup machine.now).start its
         (view pass.new).seen result }
 {
-    untold(try_step_told(machine, pass, gate, its, rule))
-}
-
-/// The same, which tells also whom the step concerned: each redistributor that isn't named is
-/// after it as it was, and each that is had its pending LPIs or its configuration read or changed
-/// by the command. None is where no command ran.
-///
-/// ```
-/// if let Tried::Done(placed) = try_step_told(machine, pass, &Open, 0, &limits) {
-///     kick(placed.reply.concerned);
-/// }
-/// ```
-pub fn try_step_told<G: Gate, L: MapRule>(
-    machine: &Machine,
-    pass: &mut Pass,
-    gate: &G,
-    its: u8,
-    rule: &L,
-) -> Tried<Stepped>
-    requires of { IsOf machine.now pass.old }
-    requires its { its < translator_count (setup machine.now) }
-    requires free { (view pass.old).held ≡ [] }
-    ensures of { IsOf machine.now pass.new }
-    ensures answer { TriesOnce (IsOfStep its) (view pass.old) (call.Step its) step_said
-        (view pass.new) result }
-    ensures rule { KeepsTried (L.forbidden rule.now) (setup machine.now).start its
-        (view pass.new).seen result }
-    ensures others { TellsOthers (setup machine.now).start its (view pass.new).seen result }
-    ensures concerned { TellsConcerned (setup machine.now).start its (view pass.new).seen result }
-{
     outcome(step_tried(machine, pass, gate, its, rule))
 }
 
@@ -129,17 +97,16 @@ fn step_tried<G: Gate, L: MapRule>(
     gate: &G,
     its: u8,
     rule: &L,
-) -> Result<Result<Placed<Stepped>, Missed>, Busy>
+) -> Result<Result<Placed<StepReply>, Missed>, Busy>
     requires of { IsOf machine.now pass.old }
     requires its { its < translator_count (setup machine.now) }
     requires free { (view pass.old).held ≡ [] }
     ensures of { IsOf machine.now pass.new }
     ensures free { (view pass.new).held ≡ [] }
-    ensures comes { ComesOnce (IsOfStep its) (view pass.old) (call.Step its) step_said
+    ensures comes { ComesOnce (IsOfStep its) (view pass.old) (call.Step its) reply.Step
         (view pass.new) result }
     ensures rule { KeepsOnce (L.forbidden rule.now) (setup machine.now).start its
         (view pass.new).seen result }
-    ensures tells { TellsOnce (setup machine.now).start its (view pass.new).seen result }
 {
     let translator = match try_take_maps(machine, pass, its) {
         Ok(translator) => translator,
@@ -164,7 +131,7 @@ fn tried_held<G: Gate, L: MapRule>(
     translator: Box<Translator>,
     memory: Box<GuestMemory>,
     rule: &L,
-) -> Result<Result<Placed<Stepped>, Missed>, Busy>
+) -> Result<Result<Placed<StepReply>, Missed>, Busy>
     requires of { IsOf machine.now pass.old }
     requires its { its < translator_count (setup machine.now) }
     requires held { (view pass.old).held ≡ memory_held (Some memory)
@@ -174,11 +141,10 @@ fn tried_held<G: Gate, L: MapRule>(
     requires room { AreEmpty (vcpu_count (setup machine.now)) memory.value.redists }
     ensures of { IsOf machine.now pass.new }
     ensures free { (view pass.new).held ≡ [] }
-    ensures comes { ComesOnceFrom (IsOfStep its) (view pass.old) (call.Step its) step_said
+    ensures comes { ComesOnceFrom (IsOfStep its) (view pass.old) (call.Step its) reply.Step
         (view pass.new) result }
     ensures rule { KeepsOnce (L.forbidden rule.now) (setup machine.now).start its
         (view pass.new).seen result }
-    ensures tells { TellsOnce (setup machine.now).start its (view pass.new).seen result }
 {
     let mut hands = Hands::new(its, translator, Some(memory));
     let made = tried_with(machine, pass, gate, &mut hands, rule);
@@ -199,7 +165,7 @@ fn tried_with<G: Gate, L: MapRule>(
     gate: &G,
     hands: &mut Hands,
     rule: &L,
-) -> Result<Result<Placed<Stepped>, Missed>, Busy>
+) -> Result<Result<Placed<StepReply>, Missed>, Busy>
     requires of { IsOf machine.now pass.old }
     requires hands { HasInHand (setup machine.now) (view pass.old) hands.old }
     requires base { IsBase hands.old }
@@ -208,10 +174,9 @@ fn tried_with<G: Gate, L: MapRule>(
     ensures of { IsOf machine.now pass.new }
     ensures hands { HasInHand (setup machine.now) (view pass.new) hands.new }
     ensures comes { ComesOnceFrom (IsOfStep hands.old.its) (view pass.old)
-        (call.Step hands.old.its) step_said (view pass.new) result }
+        (call.Step hands.old.its) reply.Step (view pass.new) result }
     ensures rule { KeepsOnce (L.forbidden rule.now) (setup machine.now).start hands.old.its
         (view pass.new).seen result }
-    ensures tells { TellsOnce (setup machine.now).start hands.old.its (view pass.new).seen result }
 {
     let Some(memory) = &hands.memory else {
         unreachable!();

@@ -1,7 +1,6 @@
 -- Messages by the cache: from what each step tells to what the call says.
 use Rattle.std.proofs.Common.{◌≡◌, ℕ, ◌+◌, ◌<◌, ◌&&◌, Bool, true, false, cond, eqb, List, [], ◌∷◌, Option, Some, None, length, refl, ap, sym}
-use Rattle.std.proofs.Common.{◌∙◌, subst, inl, inr, ⊎_elim, eq-eqb}
-use Rattle.std.specs.List.{AllByRecursion}
+use Rattle.std.proofs.Common.{◌∙◌, subst, inl, inr, eq-eqb}
 use mathlib.Core.List.{IsPrefix}
 use Rattle.its_types.specs.declared.ids.Target.{Target}
 use Rattle.its_types.specs.declared.ids.Vcpu.{Vcpu}
@@ -27,12 +26,11 @@ use Rattle.its_steps.specs.World.{View, Tries, took, out, lost_to, looked_in}
 use Rattle.its_steps.specs.declared.change.ShardChange.TheVariants.{Keep}
 use Rattle.its_steps.specs.declared.commit.Commit.{Commit}
 use Rattle.its_turns.proofs.Telling.{looked_held, goes_first, goes_looked, goes_took, goes_missed, goes_released, goes_emptied, stays_from}
-use Rattle.its_turns.proofs.Telling.{lone_on, looked_from, makes_from, made_emptied, placed_from, leaves_from}
-use Rattle.its_turns.proofs.Telling.{raced_looks, raced_out, stays_at, makes_at, owed_at}
+use Rattle.its_turns.proofs.Telling.{lone_on, makes_of, makes_from, made_emptied, placed_from, leaves_from}
 use Rattle.its_turns.specs.Contents.{held_before}
-use Rattle.its_turns.specs.Calls.{got_all, GoesOn, HasLooked}
-use Rattle.its_turns.specs.Steps.{IsBusy, at_word, CommitsAt, IsRacedAt}
-use Rattle.its_turns.specs.Told.{Looks, IsLone, released}
+use Rattle.its_turns.specs.Calls.{got_all, GoesOn}
+use Rattle.its_turns.specs.Steps.{IsBusy}
+use Rattle.its_turns.specs.Told.{Looks, IsLone, released, Commits}
 use Rattle.its_turns.specs.declared.commits.Raced.{Raced as Race}
 use Rattle.its_turns.specs.declared.turns.Busy.{Busy as Found}
 use Rattle.device_port.specs.Hands.{two_before, delivered}
@@ -199,95 +197,82 @@ module _ (s : Setup) (c : Call) (m : Message) where
         early3 : KeepsEarly v v3
         early3 = record { early = ap (λ (y : View). y.cache.early) third ∙ early2.early; word = ap (λ (y : View). y.cache.early_word) third ∙ early2.word }
 
-        raced_alone : (race : Race) (y : View) → IsRacedAt v3 w race y → ¬ IsLone v
-        raced_alone race y raced alone = raced_out v3 w race y raced (lone_on v v3 t3 on3 alone)
-
-        -- the word that the last exchange expected was read: at first, or by the exchange before
-        raced_read : (x : View) (race : Race) → HitRaced v3 w race x → HasLooked v race.expected x
-        raced_read x race hit =
-            let y = hit.left in
-            let u = hit.raced.mid in
-            let longer = hit.raced.raced.looks.longer in
-            let home : y.seen ≡ x.seen = sym (ap (λ (z : View). z.seen) hit.home) in
-            ⊎_elim
-            (λ (e : (u ≡ v3) × (race.expected ≡ w)). record {
-              mid = v1;
-              looks = subst (λ (z : Word). Looks v z v1) (sym e.1) looks;
-              before = subst (λ (z : List Entry × List Entry). IsPrefix z.0 z.1)
-                  (let old = ap (λ (z : View). z.seen) (e.0 ∙ third) ∙ seen2 in λ d. (old d, home d)) longer;
-            })
-            (λ (more : Looks v3 race.expected u). looked_from v v3 t3 on3 (λ P all. subst (AllByRecursion P) (sym bare) tt)
-            (raced_alone race y hit.raced) race.expected y x (record { mid = u; looks = more; before = longer }) home)
-            hit.raced.comes.read
-
         pub raced_now : (x : View) (race : Race) → HitRaced v3 w race x → SignalsNow v c m x (Raced race) × KeepsEarly v x
         raced_now x race hit =
             let y = hit.left in
-            let on4 = raced_looks v3 w race y hit.raced in
-            let gone = goes_emptied v y t3 (goes_looked v v3 t3 on3 y race.found on4) x hit.home in (
+            let gone = goes_emptied v y t3 (goes_looked v v3 t3 on3 y race.found hit.raced.looks) x hit.home in
+            let expected = subst (λ (z : Word). z.place < s.limits.place_last) (sym hit.raced.expected_is) room in (
               (
                 target,
                 record {
                   stays = stays_from v x t3 gone (ap (λ (u : View). u.held) hit.home ∙ sym bare);
                   tries = gone.tries;
-                  room = subst (λ (u : View). race.expected.place < u.setup.limits.place_last) on3.same hit.raced.comes.room;
-                  later = hit.raced.raced.later;
-                  read = raced_read x race hit;
-                  last = ap (λ (u : View). u.last) hit.home ∙ ap (λ (u : View). u.last) on4.same;
-                  out = raced_alone race y hit.raced;
+                  room = subst (λ (z : Setup). race.expected.place < z.limits.place_last) (sym own) expected;
+                  later = subst (λ (z : Word). z.place < race.found.place) (sym hit.raced.expected_is) hit.raced.later;
+                  read = record {
+                    mid = v1;
+                    looks = subst (λ (z : Word). Looks v z v1) (sym hit.raced.expected_is) looks;
+                    before = subst (λ (z : List Entry × List Entry). IsPrefix z.0 z.1)
+                        (let old = ap (λ (u : View). u.seen) third ∙ seen2 in let now = sym (ap (λ (u : View). u.seen) hit.home) in λ d. (old d, now d))
+                        hit.raced.looks.longer;
+                  };
+                  last = ap (λ (u : View). u.last) hit.home ∙ ap (λ (u : View). u.last) hit.raced.looks.same;
+                  out = λ alone. hit.raced.out (lone_on v v3 t3 on3 alone);
                 },
               ),
               record {
-                early = ap (λ (u : View). u.cache.early) hit.home ∙ (ap (λ (u : View). u.cache.early) on4.same ∙ early3.early);
-                word = ap (λ (u : View). u.cache.early_word) hit.home ∙ (ap (λ (u : View). u.cache.early_word) on4.same ∙ early3.word);
+                early = ap (λ (u : View). u.cache.early) hit.home ∙ (ap (λ (u : View). u.cache.early) hit.raced.looks.same ∙ early3.early);
+                word = ap (λ (u : View). u.cache.early_word) hit.home ∙ (ap (λ (u : View). u.cache.early_word) hit.raced.looks.same ∙ early3.word);
               },
             )
 
-        pub done_now : (sent : Bool) (z : Word) (x : View) → HitMade v3 w c m target ways sent z x
-            → SignalsNow v c m x (Done (record { place = z.place; reply = met sent target })) × KeepsEarly v x
-        done_now sent z x hit =
-            let a : Commit = staying z c (reply.Signal (met sent target)) Keep in
+        abbrev a : Bool → Commit
+        a sent = staying w c (reply.Signal (met sent target)) Keep
+
+        pub done_now : (sent : Bool) (x : View) → HitMade v3 w c m target ways sent x
+            → SignalsNow v c m x (Done (record { place = w.place; reply = met sent target })) × KeepsEarly v x
+        done_now sent x hit =
             let y = hit.made in
             let seen : length v3.seen ≡ w.place = ap (λ (u : View). length u.seen)
             (third ∙ ap (λ (u : View). took u (part.Pend target.vcpu) (Pend r)) took_is) ∙ looks.place in
-            let makes = makes_at v3 c (reply.Signal (met sent target)) Keep w z y seen hit.commits in
-            let made = made_emptied v y t3 a (makes_from v v3 t3 on3 a y makes) x hit.home in
+            let makes = makes_of v3 (a sent) y hit.commits seen (subst (λ (z : Setup). w.place < z.limits.place_last) (sym own3) room) in
+            let made = made_emptied v y t3 (a sent) (makes_from v v3 t3 on3 (a sent) y makes) x hit.home in
             let owes : y.held ≡ two_before m.its n target.vcpu ways hit.left [] = hit.owes
-            ∙ ap (λ (k : Setup). two_before m.its (shard_number m.dev.0 m.ev.0 k.shards) target.vcpu ways hit.left []) own3 in
+            ∙ ap (λ (z : Setup). two_before m.its (shard_number m.dev.0 m.ev.0 z.shards) target.vcpu ways hit.left []) own3 in
             let looked : y.cache.looked ≡ record { its = m.its; number = n; ways = ways } =
-            ap (λ (u : View). u.cache.looked) makes.view
-            ∙ (ap (λ (l : List Held). looked_in l v3.cache.looked) (sym (ap (λ (u : View). u.held) makes.view) ∙ owes)
+            ap (λ (u : View). u.cache.looked) hit.commits.view
+            ∙ (ap (λ (l : List Held). looked_in l v3.cache.looked) (sym (ap (λ (u : View). u.held) hit.commits.view) ∙ owes)
             ∙ looked_there target.vcpu hit.left m.its n ways [] v3.cache.looked (ap (λ (l : Looked). l.its) looked3)
             (ap (λ (l : Looked). l.number) looked3)) in (
               (
                 target,
                 sent,
                 refl,
-                placed_from v x t3 a made (ap (λ (u : View). u.held) hit.home ∙ sym bare),
-                leaves_from v x t3 a made refl,
+                placed_from v x t3 (a sent) made (ap (λ (u : View). u.held) hit.home ∙ sym bare),
+                leaves_from v x t3 (a sent) made refl,
                 made.tries,
                 finds_last x ways w (Some target) (ap (λ (u : View). u.setup) made.same ∙ own) (ap (λ (u : View). u.cache.looked) hit.home ∙ looked)
-                    (ap (λ (k : Word). k.stamp) made.last ∙ hit.commits.comes.stamp) finds,
+                    (ap (λ (z : Word). z.stamp) made.last) finds,
               ),
               record {
-                early = ap (λ (u : View). u.cache.early) hit.home ∙ (ap (λ (u : View). u.cache.early) makes.view ∙ early3.early);
-                word = ap (λ (u : View). u.cache.early_word) hit.home ∙ (ap (λ (u : View). u.cache.early_word) makes.view ∙ early3.word);
+                early = ap (λ (u : View). u.cache.early) hit.home ∙ (ap (λ (u : View). u.cache.early) hit.commits.view ∙ early3.early);
+                word = ap (λ (u : View). u.cache.early_word) hit.home ∙ (ap (λ (u : View). u.cache.early_word) hit.commits.view ∙ early3.word);
               },
             )
 
         pub hit_now : (x : View) (now : Now) → HitsNow v3 w c m target ways x now → SignalsNow v c m x now × KeepsEarly v x
-        hit_now x (Done p) h = let place = sym h.2.1 in let reply = sym h.1 in subst (λ (q : Placed Signal). SignalsNow v c m x (Done q) × KeepsEarly v x)
-            (λ d. record { place = place d; reply = reply d }) (done_now h.0 h.2.0 x h.2.2)
+        hit_now x (Done p) h = let place = sym h.2 in let reply = sym h.1 in subst (λ (q : Placed Signal). SignalsNow v c m x (Done q) × KeepsEarly v x)
+            (λ d. record { place = place d; reply = reply d }) (done_now h.0 x h.3)
         hit_now x (Raced race) h = raced_now x race h
         hit_now x Miss h = absurd h
         hit_now x (Busy b) h = absurd h
         hit_now x Spent h = absurd h
 
--- ---- the commit, at a word that has the stamp of the one that was read
+-- ---- the commit
 
 module _ (s : Setup) (vcpus : HasVcpus s) (c : Call) (m : Message) (sends : Sends s c m) (target : Target) (ways : List (Option Translation))
     (r : PendState) (w : Word) (st : target.vcpu.0 < vcpu_count s)
-    (sh : shard_number m.dev.0 m.ev.0 s.shards < s.shards)
+    (sh : shard_number m.dev.0 m.ev.0 s.shards < s.shards) (room : w.place < s.limits.place_last)
     (finds : found ways m.dev.0 m.ev.0 (stamp_of s w m.its) ≡ Some target) (y : View)
     (held : y.held ≡ two_before m.its (shard_number m.dev.0 m.ev.0 s.shards) target.vcpu ways r []) where
   abbrev hit_call : Bool → Commit
@@ -296,37 +281,24 @@ module _ (s : Setup) (vcpus : HasVcpus s) (c : Call) (m : Message) (sends : Send
   abbrev two : PendState → List Held
   two x = two_before m.its (shard_number m.dev.0 m.ev.0 s.shards) target.vcpu ways x []
 
-  module _ (z : Word) (stamp : z.stamp ≡ w.stamp) (room : z.place < s.limits.place_last) where
-    abbrev there : Bool → Commit
-    there on = staying z c (reply.Signal (met on target)) Keep
+  both : (on : Bool) → r.accepts ≡ on → MayLeave s (hit_call on) (two r) (two (delivered on r target))
+  both true is = hits s w c m.its m.dev m.ev target ways r sends.message_is vcpus sends.stands st sh room finds is
+  both false is = hits_off s w c m.its m.dev m.ev target ways r sends.message_is vcpus sends.stands st sh room finds is
 
-    hit_there : (on : Bool) → at_word (hit_call on) z ≡ there on
-    hit_there on = stays_at c (reply.Signal (met on target)) Keep w z stamp
+  pub hit_may : (on : Bool) → r.accepts ≡ on → MayCall s (hit_call on) y.held
+  hit_may on is = subst (MayCall s (hit_call on)) (sym held) (both on is).0
 
-    finds_there : found ways m.dev.0 m.ev.0 (stamp_of s z m.its) ≡ Some target
-    finds_there = (λ d. found ways m.dev.0 m.ev.0 (stamp_at (translator_count s) (stamp d) m.its)) ∙ finds
+  pub hit_owes : (on : Bool) → r.accepts ≡ on → y.setup ≡ s → (x : View) → Commits y (hit_call on) x → x.held ≡ two (delivered on r target)
+  hit_owes on is own x commits = ap (λ (u : View). u.held) commits.view ∙ ((λ d. renewal (own d) (hit_call on) (held d)) ∙ (both on is).1)
 
-    both : (on : Bool) → r.accepts ≡ on → MayLeave s (there on) (two r) (two (delivered on r target))
-    both true is = hits s z c m.its m.dev m.ev target ways r sends.message_is vcpus sends.stands st sh room finds_there is
-    both false is = hits_off s z c m.its m.dev m.ev target ways r sends.message_is vcpus sends.stands st sh room finds_there is
-
-    pub hit_may : (on : Bool) → r.accepts ≡ on → MayCall s (at_word (hit_call on) z) y.held
-    hit_may on is = subst (λ (k : Commit × List Held). MayCall s k.0 k.1) (let at = sym (hit_there on) in let has = sym held in λ d. (at d, has d)) (both on is).0
-
-  pub hit_owes : (on : Bool) → r.accepts ≡ on → y.setup ≡ s → (z : Word) (x : View) → CommitsAt y (hit_call on) z x → x.held ≡ two (delivered on r target)
-  hit_owes on is own z x made =
-      let stamp = made.comes.stamp in
-      let room = subst (λ (k : Setup). z.place < k.limits.place_last) own made.comes.room in
-      owed_at y (hit_call on) z x made ∙ ((let at = hit_there z stamp room on in λ d. renewal (own d) (at d) (held d)) ∙ (both z stamp room on is).1)
-
-  pub hit_made : (on : Bool) → r.accepts ≡ on → y.setup ≡ s → (z : Word) (x home : View) → CommitsAt y (hit_call on) z x → home ≡ record x { held = [] }
-      → HitMade y w c m target ways on z home
-  hit_made on is own z x home made empty = record {
+  pub hit_made : (on : Bool) → r.accepts ≡ on → y.setup ≡ s → (x z : View) → Commits y (hit_call on) x → z ≡ record x { held = [] }
+      → HitMade y w c m target ways on z
+  hit_made on is own x z commits home = record {
     made = x;
-    commits = made;
+    commits = commits;
     left = delivered on r target;
-    owes = hit_owes on is own z x made ∙ ap (λ (q : Setup). two_before m.its (shard_number m.dev.0 m.ev.0 q.shards) target.vcpu ways
+    owes = hit_owes on is own x commits ∙ ap (λ (q : Setup). two_before m.its (shard_number m.dev.0 m.ev.0 q.shards) target.vcpu ways
         (delivered on r target) [])
         (sym own);
-    home = empty;
+    home = home;
   }

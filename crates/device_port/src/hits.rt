@@ -15,7 +15,7 @@ use crate::message::Message;
 use its_plain::{Call, Reply, Signal};
 use its_steps::{Commit, ShardChange};
 use its_turns::{
-    Busy, Machine, Pass, Raced, Value, begin, commit_again, put, try_take_pend, try_take_shard,
+    Busy, Machine, Pass, Raced, Value, begin, commit, put, try_take_pend, try_take_shard,
 };
 use its_types::{DeviceId, EventId, Gate, Part, Placed, Point, Word};
 
@@ -161,13 +161,13 @@ fn hit<G: Gate>(
         change: ShardChange::Keep,
     };
     gate.at(pass.number(), Point::BeforeCommit);
-    match commit_again(machine, pass, &made) {
-        Ok(at) => {
+    match commit(machine, pass, &made) {
+        Ok(place) => {
             gate.at(pass.number(), Point::AfterCommit);
             hand.deliver(on);
             put_two(machine, pass, message.its, hand);
             Now::Done(Placed {
-                place: at.place,
+                place,
                 reply: signal,
             })
         }

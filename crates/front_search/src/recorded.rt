@@ -3,11 +3,7 @@ use std::alloc::{AllocError, Global};
 
 /// Calls of some threads with what they were answered, in a machine that has states.
 pub trait Recorded<S> {
-    /// What is kept from one question to the next, as a machine in some state, so that less has to
-    /// be made anew. It changes no answer.
-    type Kept: Drop;
-
-    ghost use Rattle.std.specs.Prelude.{◌≡◌, ℕ, true, IfOk, OnOk, MatchOption};
+    ghost use Rattle.std.specs.Prelude.{◌≡◌, ℕ, true, IfOk, MatchOption};
     ghost use Rattle.std.specs.Bool.{Decides};
     ghost use Rattle.front_search.specs.Commuting.{Commutes};
 
@@ -18,35 +14,23 @@ pub trait Recorded<S> {
     /// The last call may leave this state.
     ghost IsEnd: { Self → S → Type 0 };
 
-    /// What is kept is of these calls.
-    ghost IsOf: { Self.Kept → Self → Type 0 };
-
-    /// What is kept before the first question.
-    fn begin(&self, alloc: Global) -> Result<Self::Kept, AllocError>
-        ensures { IfOk result (λ kept. IsOf kept self.now) };
-
     /// Makes a call in a copy of a state, if it is answered as it was recorded.
     fn after(
         &self,
         alloc: Global,
-        kept: &mut Self::Kept,
         state: &S,
         thread: usize,
         call: usize,
     ) -> Result<Option<S>, AllocError>
-        requires { IsOf kept.old self.now }
         ensures goes { IfOk result (λ o. MatchOption o
             ((w : S) → ¬ Goes self.now state.now thread call w)
             (λ w. Goes self.now state.now thread call w)) }
         ensures one { IfOk result (λ o. MatchOption o (Unit {0})
-            (λ w. (x : S) → Goes self.now state.now thread call x → x ≡ w)) }
-        ensures kept { OnOk result (IsOf kept.new self.now) };
+            (λ w. (x : S) → Goes self.now state.now thread call x → x ≡ w)) };
 
     /// Whether the last call may leave this state.
-    fn ends(&self, alloc: Global, kept: &mut Self::Kept, state: &S) -> Result<bool, AllocError>
-        requires { IsOf kept.old self.now }
-        ensures ends { IfOk result (λ b. Decides b (IsEnd self.now state.now)) }
-        ensures kept { OnOk result (IsOf kept.new self.now) };
+    fn ends(&self, alloc: Global, state: &S) -> Result<bool, AllocError>
+        ensures { IfOk result (λ b. Decides b (IsEnd self.now state.now)) };
 
     /// Whether a call is known to commute with a call of another thread. `false` says nothing.
     fn commutes(&self, thread: usize, call: usize, other_thread: usize, other_call: usize) -> bool

@@ -26,12 +26,10 @@ struct Further<S> {
 pub fn run_on<S: Drop, C: Recorded<S>>(
     alloc: Global,
     calls: &C,
-    kept: &mut C::Kept,
     threads: &[Listed<Span>],
     search: &mut Search<S>,
     left: &mut u64,
 ) -> Result<bool, AllocError>
-    requires kept { C.IsOf kept.old calls.now }
     requires long { length search.old.front.items ≡ length threads.now }
     requires none { (order : List ℕ) → ¬ Fits (C.Goes calls.now) (C.IsEnd calls.now) threads.now
         search.old.front.items search.old.state order }
@@ -43,9 +41,8 @@ pub fn run_on<S: Drop, C: Recorded<S>>(
         < 2 * left.old + length search.old.path.items) }
     ensures stays { IfOk result (λ b. b ≡ false → search.new ≡ search.old) }
     ensures left { OnOk result (left.new ≤ left.old) }
-    ensures kept { OnOk result (C.IsOf kept.new calls.now) }
 {
-    match find(alloc, calls, kept, threads, search, left)? {
+    match find(alloc, calls, threads, search, left)? {
         Some(further) => {
             let Further { thread, state } = further;
             search.place(thread, threads.len(), state, Vec::new(alloc))?;
@@ -60,18 +57,15 @@ pub fn run_on<S: Drop, C: Recorded<S>>(
 fn find<S: Drop, C: Recorded<S>>(
     alloc: Global,
     calls: &C,
-    kept: &mut C::Kept,
     threads: &[Listed<Span>],
     search: &Search<S>,
     left: &mut u64,
 ) -> Result<Option<Further<S>>, AllocError>
-    requires kept { C.IsOf kept.old calls.now }
-    requires long { length search.now.front.items ≡ length threads.now }
+    requires { length search.now.front.items ≡ length threads.now }
     ensures goes { IfOk result (λ o. IfSome o (λ f.
         GoesOn (C.Goes calls.now) threads.now search.now f.thread f.state)) }
     ensures less { IfOk result (λ o. IfSome o (λ _. left.new < left.old)) }
     ensures left { OnOk result (left.new ≤ left.old) }
-    ensures kept { OnOk result (C.IsOf kept.new calls.now) }
 {
     for thread in 0..threads.len() {
         if *left == 0 {
@@ -80,7 +74,7 @@ fn find<S: Drop, C: Recorded<S>>(
         if may_go(threads, search.front(), thread) {
             *left -= 1;
             let call = search.placed(thread);
-            let tried = calls.after(alloc, kept, search.state(), thread, call)?;
+            let tried = calls.after(alloc, search.state(), thread, call)?;
             if let Some(state) = tried {
                 return Ok(Some(Further { thread, state }));
             }

@@ -39,28 +39,6 @@ pub fn find_order<S: Drop, C: Recorded<S>>(
         IsReached (C.Goes calls.now) threads.now first reached)) }
     ensures undecided { IfOk result (λ o. IfUndecided o (λ states. states ≡ bound)) }
 {
-    let mut kept = calls.begin(alloc)?;
-    find_with(alloc, calls, &mut kept, first, threads, bound)
-}
-
-/// The same with what is kept on the way.
-fn find_with<S: Drop, C: Recorded<S>>(
-    alloc: Global,
-    calls: &C,
-    kept: &mut C::Kept,
-    first: S,
-    threads: &[Listed<Span>],
-    bound: u64,
-) -> Result<Outcome, AllocError>
-    requires { C.IsOf kept.old calls.now }
-    ensures fits { IfOk result (λ o. IfFits o (λ order.
-        Fits (C.Goes calls.now) (C.IsEnd calls.now) threads.now (start threads.now) first order)) }
-    ensures nowhere { IfOk result (λ o. IfNowhere o (λ _.
-        NoneFits (C.Goes calls.now) (C.IsEnd calls.now) threads.now first)) }
-    ensures reached { IfOk result (λ o. IfNowhere o (λ reached.
-        IsReached (C.Goes calls.now) threads.now first reached)) }
-    ensures undecided { IfOk result (λ o. IfUndecided o (λ states. states ≡ bound)) }
-{
     let mut search = Search::new(alloc, first, threads)?;
     let mut left = bound;
     'tries: loop {
@@ -70,15 +48,15 @@ fn find_with<S: Drop, C: Recorded<S>>(
                     return Ok(Outcome::Undecided(bound));
                 }
                 left -= 1;
-                try_call(alloc, calls, kept, threads, &mut search, choice)?;
+                try_call(alloc, calls, threads, &mut search, choice)?;
             }
             None => {
-                let ends = is_end(alloc, calls, kept, threads, &search)?;
+                let ends = is_end(alloc, calls, threads, &search)?;
                 if ends {
                     let order = search.order(alloc)?;
                     return Ok(Outcome::Fits(order));
                 }
-                let more = go_on(alloc, calls, kept, threads, &mut search, &mut left)?;
+                let more = go_on(alloc, calls, threads, &mut search, &mut left)?;
                 if !more {
                     return Ok(Outcome::Nowhere(search.into_reached()));
                 }
@@ -91,19 +69,16 @@ fn find_with<S: Drop, C: Recorded<S>>(
 fn is_end<S: Drop, C: Recorded<S>>(
     alloc: Global,
     calls: &C,
-    kept: &mut C::Kept,
     threads: &[Listed<Span>],
     search: &Search<S>,
 ) -> Result<bool, AllocError>
-    requires kept { C.IsOf kept.old calls.now }
-    requires long { length search.now.front.items ≡ length threads.now }
-    ensures ends { IfOk result (λ b. Decides b (Fits (C.Goes calls.now) (C.IsEnd calls.now)
+    requires { length search.now.front.items ≡ length threads.now }
+    ensures { IfOk result (λ b. Decides b (Fits (C.Goes calls.now) (C.IsEnd calls.now)
         threads.now search.now.front.items search.now.state [])) }
-    ensures kept { OnOk result (C.IsOf kept.new calls.now) }
 {
     let whole = is_whole(threads, search.front());
     if whole {
-        let ends = calls.ends(alloc, kept, search.state())?;
+        let ends = calls.ends(alloc, search.state())?;
         return Ok(ends);
     }
     Ok(false)
@@ -113,12 +88,10 @@ fn is_end<S: Drop, C: Recorded<S>>(
 fn try_call<S: Drop, C: Recorded<S>>(
     alloc: Global,
     calls: &C,
-    kept: &mut C::Kept,
     threads: &[Listed<Span>],
     search: &mut Search<S>,
     choice: Choice,
 ) -> Result<(), AllocError>
-    requires kept { C.IsOf kept.old calls.now }
     requires long { length search.old.front.items ≡ length threads.now }
     requires may_go { MayGo threads.now search.old.front.items choice.thread }
     requires enough { IsEnough (C.Goes calls.now) (C.IsEnd calls.now) threads.now
@@ -130,11 +103,10 @@ fn try_call<S: Drop, C: Recorded<S>>(
         IsAt (C.Goes calls.now) (C.IsEnd calls.now) threads.now first search.new) }
     ensures path { OnOk result
         (length search.new.path.items ≤ length search.old.path.items + 1) }
-    ensures kept { OnOk result (C.IsOf kept.new calls.now) }
 {
     let Choice { thread, next } = choice;
     let call = search.placed(thread);
-    let tried = calls.after(alloc, kept, search.state(), thread, call)?;
+    let tried = calls.after(alloc, search.state(), thread, call)?;
     match tried {
         Some(state) => {
             let asleep = asleep_after(alloc, calls, threads, search, thread)?;
@@ -153,12 +125,10 @@ fn try_call<S: Drop, C: Recorded<S>>(
 fn go_on<S: Drop, C: Recorded<S>>(
     alloc: Global,
     calls: &C,
-    kept: &mut C::Kept,
     threads: &[Listed<Span>],
     search: &mut Search<S>,
     left: &mut u64,
 ) -> Result<bool, AllocError>
-    requires kept { C.IsOf kept.old calls.now }
     requires at { IsSomewhere (C.Goes calls.now) (C.IsEnd calls.now) threads.now search.old }
     requires no_more { NoneFrom (C.Goes calls.now) (C.IsEnd calls.now) threads.now
         search.old.front.items search.old.state search.old.next }
@@ -176,10 +146,9 @@ fn go_on<S: Drop, C: Recorded<S>>(
     ensures reached { IfOk result (λ b. b ≡ false → (first : S) →
         IsAt (C.Goes calls.now) (C.IsEnd calls.now) threads.now first search.old →
         IsReached (C.Goes calls.now) threads.now first search.new.reached.items) }
-    ensures kept { OnOk result (C.IsOf kept.new calls.now) }
 {
     if search.is_longest() {
-        let further = run_on(alloc, calls, kept, threads, search, left)?;
+        let further = run_on(alloc, calls, threads, search, left)?;
         if further {
             return Ok(true);
         }

@@ -138,7 +138,10 @@ fn send_beside<R: Clock + Threads + Wait + Sync>(
     };
     let rounds = beside.prepared(alloc)?;
     let (machine, mut root) = shared(alloc, kind)?;
-    found_of_root(rt, alloc, &machine, &mut root, rounds, threads, sending)
+    let found = found_of_root(rt, alloc, &machine, &mut root, rounds, threads, sending);
+    drop(root);
+    drop(machine);
+    found
 }
 
 // With a pass that is split off.
@@ -155,11 +158,25 @@ fn found_of_root<R: Clock + Threads + Wait + Sync>(
     requires made { (view root.old).root.made ≡ 1 }
 {
     let mut pass = split(machine, root);
-    let Rounds { before, calls, .. } = rounds;
-    make_each(rt, alloc, machine, &mut pass, before.as_slice());
-    let mut lanes = lanes(alloc, machine, root, calls, threads, sending)?;
-    drive_all(rt, alloc, machine, &mut lanes, sending)?;
-    gathered(alloc, lanes.as_slice(), sending.count)
+    make_each(rt, alloc, machine, &mut pass, rounds.before.as_slice());
+    drop(pass);
+    let mut lanes = lanes(alloc, machine, root, rounds.calls, threads, sending)?;
+    let found = found_of_lanes(rt, alloc, machine, &mut lanes, sending);
+    drop(lanes);
+    found
+}
+
+fn found_of_lanes<R: Clock + Threads + Wait + Sync>(
+    rt: &R,
+    alloc: Global,
+    machine: &Machine,
+    lanes: &mut [Lane],
+    sending: Sending,
+) -> io::Result<Found>
+    requires { AllByRecursion (λ l. IsReady machine.now l.pass) lanes.old }
+{
+    drive_all(rt, alloc, machine, lanes, sending)?;
+    gathered(alloc, lanes, sending.count)
 }
 
 // A lane for each thread that signals, and one that makes calls, if there are any.

@@ -42,7 +42,9 @@ const ENABLING: [Call; 4] = [
 /// The machine, on which no call was made.
 pub fn new_machine(alloc: Global) -> Result<Machine, AllocError> {
     let desc = desc(alloc)?;
-    match Machine::new(alloc, &desc) {
+    let made = Machine::new(alloc, &desc);
+    drop(desc);
+    match made {
         Ok(machine) => Ok(machine),
         Err(_) => Err(AllocError),
     }

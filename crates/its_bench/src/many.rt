@@ -229,7 +229,10 @@ pub fn time_many<R: Clock + Wait>(
         ..SINGLE
     };
     let (machine, mut root) = shared(alloc, kind)?;
-    lap_of_root(rt, alloc, &machine, &mut root, many, vcpus, count)
+    let lap = lap_of_root(rt, alloc, &machine, &mut root, many, vcpus, count);
+    drop(root);
+    drop(machine);
+    lap
 }
 
 // With a pass that is split off.

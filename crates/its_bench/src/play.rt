@@ -38,7 +38,9 @@ impl Mapped {
 /// How many of so many signals are delivered.
 pub fn play(alloc: Global, mapped: Mapped, count: u32) -> Result<u32, AllocError> {
     let mut machine = new_machine(alloc)?;
-    delivered(alloc, &mut machine, mapped, count)
+    let delivered = delivered(alloc, &mut machine, mapped, count);
+    drop(machine);
+    delivered
 }
 
 fn delivered(

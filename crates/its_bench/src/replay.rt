@@ -57,7 +57,9 @@ fn first_wrong(
     let Ok(mut machine) = Machine::new(alloc, desc) else {
         return Err(AllocError);
     };
-    first_other(alloc, &mut machine, entries)
+    let wrong = first_other(alloc, &mut machine, entries);
+    drop(machine);
+    wrong
 }
 
 fn first_other(

@@ -167,7 +167,9 @@ pub fn shared(alloc: Global, kind: Kind) -> Result<(Machine, Root), AllocError>
     ensures made { IfOk result (λ made. (view made.1).root.made ≡ 1) }
 {
     let desc = desc(alloc, kind)?;
-    match share(alloc, &desc) {
+    let made = share(alloc, &desc);
+    drop(desc);
+    match made {
         Ok(made) => Ok(made),
         Err(_) => Err(AllocError),
     }

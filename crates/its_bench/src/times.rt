@@ -130,7 +130,10 @@ fn time_calls<R: Clock + Threads + Wait + Sync>(
     count: u32,
 ) -> io::Result<Lap> {
     let (machine, mut root) = shared(alloc, calls.kind())?;
-    lap_of_root(rt, alloc, &machine, &mut root, calls, count)
+    let lap = lap_of_root(rt, alloc, &machine, &mut root, calls, count);
+    drop(root);
+    drop(machine);
+    lap
 }
 
 // With a pass that is split off.

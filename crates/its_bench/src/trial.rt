@@ -134,13 +134,18 @@ fn run<R: Threads + Wait + Sync>(
     requires few { length lists.items ≤ 66 }
 {
     let (machine, mut root) = shared(alloc, kind)?;
-    make_calls(rt, alloc, &machine, &mut root, lists)
+    let done = make_calls(rt, alloc, &machine, &mut root, lists);
+    drop(root);
+    drop(machine);
+    done
 }
 
 // What the machine of one caller says of what threads did.
 fn compared(alloc: Global, kind: Kind, done: &Done) -> Result<Checked, AllocError> {
     let desc = desc(alloc, kind)?;
-    let (places, wrong) = replay(alloc, &desc, &done.actors)?;
+    let replayed = replay(alloc, &desc, &done.actors);
+    drop(desc);
+    let (places, wrong) = replayed?;
     Ok(Checked {
         places,
         counts: done.counts,
@@ -158,5 +163,7 @@ pub fn trial<R: Threads + Wait + Sync>(
     requires few { length calls.beside.items ≤ 64 }
 {
     let done = run(rt, alloc, kind, lists(calls)?)?;
-    compared(alloc, kind, &done)
+    let checked = compared(alloc, kind, &done);
+    drop(done);
+    checked
 }

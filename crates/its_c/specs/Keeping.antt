@@ -10,7 +10,7 @@ use Rattle.its_numbers.specs.declared.limits.GuestLimits.{GuestLimits}
 
 pub record Held : Type 0 where
   pub machine : Plain
-  -- but for the bytes that it put into memory, and with the windows that were added since
+  -- but for the bytes that it put into memory
   pub desc : Desc
   -- how much the guest may take
   pub limits : GuestLimits

@@ -11,5 +11,4 @@ pub mod Pieces
 pub mod Routes
 pub mod Saves
 pub mod Stretches
-pub mod Windows
 pub mod Words

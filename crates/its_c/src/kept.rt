@@ -4,11 +4,10 @@ ghost use Rattle.owned_machine.specs.Lent.{on};
 ghost use Rattle.its_numbers.specs.Limits as spec;
 
 use crate::routes::next_count;
-use crate::windows::{meets_any, with_one};
 use dma_routes::route;
-use guest_windows::{Memory, NewError, Outside};
+use guest_windows::{Memory, Outside};
 use its_numbers::{GuestLimits, has_room, is_at, is_past, is_within, missing};
-use its_plain::{Bytes64, Call, Desc, DescFault, MakeError, Reply, Route, SaveError, StepReply};
+use its_plain::{Bytes64, Call, Desc, Reply, Route, SaveError, StepReply};
 use its_types::Addr;
 use owned_machine::Machine;
 use std::alloc::{AllocError, Global};
@@ -58,7 +57,6 @@ impl Kept {
     ghost use Rattle.its_c.specs.Keeping.{with_machine, maps_none};
     ghost use Rattle.its_numbers.specs.Limits.{no_limit, is_full, is_over};
     ghost use Rattle.its_c.specs.Routes.{counted};
-    ghost use Rattle.its_c.specs.Windows.{held_with, window_test, IsWindowFault};
     ghost use Rattle.its_c.specs.declared.kept.StepError.TheVariants.{Full, NoMemory};
     ghost use Rattle.its_plain.specs.Answer as plain;
     ghost use Rattle.its_plain.specs.Doorbells.{route_of, dma_of};
@@ -293,28 +291,6 @@ impl Kept {
         ensures where_all { is_ok result ≡ inside self.old.machine.memory address.0 len }
     {
         self.machine.forget(address, len)
-    }
-
-    /// Adds a window of zero bytes to guest memory, as the machine does, and to the description,
-    /// unless it shares a byte with the translator's frames.
-    pub fn add_window(&mut self, alloc: Global, base: Addr, len: u64) -> Result<(), MakeError>
-        ensures added { OnOk result (self.new ≡ held_with self.old (base.0, len)) }
-        ensures fits { OnOk result (window_test self.old (base.0, len) ≡ Ok tt) }
-        ensures fault { IfErr result (IsWindowFault self.old (base.0, len)) }
-        ensures err { OnErr result (self.new ≡ self.old) }
-    {
-        if meets_any(self.desc.translators.as_slice(), base, len) {
-            return Err(MakeError::Fault(DescFault::Frames(0)));
-        }
-        let windows = with_one(alloc, self.desc.windows.as_slice(), base, len)?;
-        match self.machine.add_window(alloc, base, len) {
-            Ok(()) => {
-                self.desc.windows = windows;
-                Ok(())
-            }
-            Err(NewError::BadWindows) => Err(MakeError::Fault(DescFault::Windows)),
-            Err(NewError::NoMemory) => Err(MakeError::NoMemory),
-        }
     }
 
     /// Saves into a copy of guest memory, and goes on from there, as the machine does.

@@ -33,10 +33,6 @@ mod step_calls;
 mod stretches;
 #[cfg(test)]
 mod tests;
-mod window_calls;
-#[cfg(test)]
-mod window_tests;
-mod windows;
 mod words;
 
 pub use handle::Handle;

@@ -3,16 +3,15 @@ ghost use Rattle.std.specs.Prelude.{OnOk};
 ghost use Rattle.its_explain.specs.Since.{Tells};
 ghost use Rattle.its_plain.specs.Machine.{IsDescription};
 
-use crate::book::Book;
 use crate::call_lines::call_lines;
 use crate::came::Told;
-use crate::faults::{fault_of, push_script_faults};
+use crate::faults::push_script_faults;
 use crate::machine_fault::push_machine_fault;
 use crate::replayed::Replayed;
 use crate::script_fault::push_script_fault;
 use crate::story::Story;
 use crate::trace_fault::push_trace_fault;
-use event_script::{Move, Script, parse, parse_check};
+use event_script::{Move, ParseError, Script, parse, parse_check};
 use its_history::{TraceError, parse_trace};
 use its_plain::MakeError;
 use std::alloc::{AllocError, Global};
@@ -33,12 +32,9 @@ fn push_input(
     report: &[u8],
 ) -> Result<(), AllocError> {
     match parse(alloc, input) {
-        Ok(script) => {
-            let told = push_run(alloc, out, input, &script, report);
-            drop(script);
-            told
-        }
-        Err(error) => push_script_faults(alloc, out, input, fault_of(error)?),
+        Ok(script) => push_run(alloc, out, input, &script, report),
+        Err(ParseError::NoMemory) => Err(AllocError),
+        Err(ParseError::Fault(fault)) => push_script_faults(alloc, out, input, fault),
     }
 }
 
@@ -52,28 +48,13 @@ fn push_run(
     requires { IsDescription script.now.desc }
 {
     let lines = call_lines(alloc, input)?;
-    let book = Book::of_script(alloc, script)?;
     match Replayed::new(alloc, &script.desc) {
         Ok(machine) => {
-            let mut story = Story::new(alloc, input, script, machine, book, &lines);
-            let told = push_lines(out, &mut story, report);
-            drop(story);
-            told
+            let story = &mut Story::new(alloc, input, script, machine, &lines)?;
+            push_lines(out, story, report)
         }
-        Err(error) => push_not_made(out, input, script, error),
-    }
-}
-
-/// Tells why a script's machine can't be made, unless memory ran out.
-fn push_not_made(
-    out: &mut String,
-    input: &[u8],
-    script: &Script,
-    error: MakeError,
-) -> Result<(), AllocError> {
-    match error {
-        MakeError::Fault(fault) => push_machine_fault(out, input, script, fault),
-        MakeError::NoMemory => Err(AllocError),
+        Err(MakeError::NoMemory) => Err(AllocError),
+        Err(MakeError::Fault(fault)) => push_machine_fault(out, input, script, fault),
     }
 }
 
@@ -116,12 +97,9 @@ pub fn explain_check(alloc: Global, input: &[u8]) -> Result<String, AllocError> 
 
 fn push_checked(alloc: Global, out: &mut String, input: &[u8]) -> Result<(), AllocError> {
     match parse_check(alloc, input) {
-        Ok(read) => {
-            let told = push_check(alloc, out, input, &read.script, read.report);
-            drop(read);
-            told
-        }
-        Err(error) => push_script_fault(alloc, out, input, fault_of(error)?),
+        Ok(read) => push_check(alloc, out, input, &read.script, read.report),
+        Err(ParseError::NoMemory) => Err(AllocError),
+        Err(ParseError::Fault(fault)) => push_script_fault(alloc, out, input, fault),
     }
 }
 
@@ -136,15 +114,13 @@ fn push_check(
 {
     let lines = call_lines(alloc, input)?;
     let bad = bad_line(alloc, script, report)?;
-    let book = Book::of_script(alloc, script)?;
     match Replayed::new(alloc, &script.desc) {
         Ok(machine) => {
-            let mut story = Story::new(alloc, input, script, machine, book, &lines);
-            let told = push_shaped(alloc, out, script, &mut story, report, bad);
-            drop(story);
-            told
+            let story = &mut Story::new(alloc, input, script, machine, &lines)?;
+            push_shaped(alloc, out, script, story, report, bad)
         }
-        Err(error) => push_not_made(out, input, script, error),
+        Err(MakeError::NoMemory) => Err(AllocError),
+        Err(MakeError::Fault(fault)) => push_machine_fault(out, input, script, fault),
     }
 }
 
@@ -156,18 +132,9 @@ fn bad_line(alloc: Global, script: &Script, report: &[u8]) -> Result<Option<u64>
     }
     let legs = script.legs.len();
     match parse_trace(alloc, report, legs, &copies, script.desc.shape.vcpus) {
-        Ok(trace) => {
-            drop(trace);
-            Ok(None)
-        }
-        Err(error) => line_of(error),
-    }
-}
-
-fn line_of(error: TraceError) -> Result<Option<u64>, AllocError> {
-    match error {
-        TraceError::BadLine(line) => Ok(Some(line)),
-        TraceError::NoMemory => Err(AllocError),
+        Ok(_) => Ok(None),
+        Err(TraceError::NoMemory) => Err(AllocError),
+        Err(TraceError::BadLine(line)) => Ok(Some(line)),
     }
 }
 

@@ -22,24 +22,14 @@ pub fn push_script_faults(
         return Ok(());
     }
     let mut rest = Vec::from_slice(alloc, input)?;
-    push_others(alloc, out, input, &mut rest, first)
-}
-
-/// Adds the faults after the first, without whose line the rest of the input is read.
-fn push_others(
-    alloc: Global,
-    out: &mut String,
-    input: &[u8],
-    rest: &mut [u8],
-    first: ScriptFault,
-) -> Result<(), AllocError> {
     let mut fault = first;
     for _ in 1..MOST {
-        leave_out(rest, fault.line);
-        fault = match fault_in(alloc, rest)? {
-            Some(next) => next,
-            None => return Ok(()),
-        };
+        leave_out(&mut rest, fault.line);
+        match parse(alloc, &rest) {
+            Ok(_) => return Ok(()),
+            Err(ParseError::NoMemory) => return Err(AllocError),
+            Err(ParseError::Fault(next)) => fault = next,
+        }
         out.push_str("\n")?;
         push_script_fault(alloc, out, input, fault)?;
         if !is_of_call(alloc, input, fault)? {
@@ -47,25 +37,6 @@ fn push_others(
         }
     }
     out.push_str("\nThere may be more.\n")
-}
-
-/// The first fault of a script, if it has one.
-fn fault_in(alloc: Global, input: &[u8]) -> Result<Option<ScriptFault>, AllocError> {
-    match parse(alloc, input) {
-        Ok(script) => {
-            drop(script);
-            Ok(None)
-        }
-        Err(error) => Ok(Some(fault_of(error)?)),
-    }
-}
-
-/// What is wrong with a script that wasn't read, unless memory ran out.
-pub fn fault_of(error: ParseError) -> Result<ScriptFault, AllocError> {
-    match error {
-        ParseError::Fault(fault) => Ok(fault),
-        ParseError::NoMemory => Err(AllocError),
-    }
 }
 
 /// Whether a fault is one of a call alone.

@@ -40,20 +40,16 @@ pub fn push_script_fault(
         fields: fields_of(alloc, line)?,
         context: Context::before(alloc, input, fault.line)?,
     };
-    push_faulty(out, &faulty, fault.kind)
-}
-
-fn push_faulty(out: &mut String, faulty: &Faulty, kind: Kind) -> Result<(), AllocError> {
-    match kind {
-        Kind::Cut => push_cut(out, faulty),
-        Kind::Text => push_text(out, faulty),
-        Kind::Word => push_word(out, faulty),
-        Kind::Order => push_order(out, faulty),
-        Kind::Missing => push_missing(out, faulty),
-        Kind::Fields => push_fields(out, faulty),
-        Kind::Number => push_slot_fault(out, faulty, Wanted::Number),
-        Kind::Hex => push_slot_fault(out, faulty, Wanted::Bytes),
-        Kind::Many => push_many(out, faulty),
+    match fault.kind {
+        Kind::Cut => push_cut(out, &faulty),
+        Kind::Text => push_text(out, &faulty),
+        Kind::Word => push_word(out, &faulty),
+        Kind::Order => push_order(out, &faulty),
+        Kind::Missing => push_missing(out, &faulty),
+        Kind::Fields => push_fields(out, &faulty),
+        Kind::Number => push_slot_fault(out, &faulty, Wanted::Number),
+        Kind::Hex => push_slot_fault(out, &faulty, Wanted::Bytes),
+        Kind::Many => push_many(out, &faulty),
     }
 }
 

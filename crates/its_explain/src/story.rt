@@ -48,26 +48,25 @@ pub struct Story<'a> {
 }
 
 impl<'a> Story<'a> {
-    /// Before the first line. The machine stands in its first state, and the book is the script's.
+    /// Before the first line. The machine stands in its first state.
     pub fn new(
         alloc: Global,
         input: &'a [u8],
         script: &'a Script,
         machine: Replayed,
-        book: Book,
         lines: &'a [CallLine],
-    ) -> Story<'a> {
-        Story {
+    ) -> Result<Story<'a>, AllocError> {
+        Ok(Story {
             alloc,
             input,
             script,
             machine,
-            book,
+            book: Book::of_script(alloc, script)?,
             lines,
             legs: 0,
             left: Left::none(alloc),
             places: 0,
-        }
+        })
     }
 
     /// Tells a line of the report.

@@ -1,4 +1,4 @@
--- Calls commute of which neither changes what the other reads or changes.
+-- Calls whose reaches are apart commute, and so do calls that only read.
 use Rattle.std.proofs.Common.{◌≡◌, ◌≢◌, ◌⊎◌, ℕ, zero, suc, true, List, [], ◌∷◌, Some, refl, sym, ap, subst, ◌∙◌, inl, inr}
 use Rattle.std.proofs.lemmas.Bool.{cases_eq}
 use Rattle.std.specs.List.{AllByRecursion}
@@ -6,23 +6,23 @@ use Rattle.std.specs.Option.{option_map}
 use Rattle.std.specs.Prelude.{slice_get}
 use Rattle.its_types.specs.declared.machine.Part.{Part}
 use Rattle.its_types.specs.declared.machine.Part.TheVariants.{Maps as MapsOf, Mem, Shard, Conf, Pend}
-use Rattle.its_history.specs.Texts.{answered_text}
-use Rattle.its_plain.specs.Answer.{answer, reply_of}
+use Rattle.its_plain.specs.Answer.{answer, left, reply_of}
 use Rattle.its_plain.specs.Parts.{AgreesOn, IsIn, SamePart, conf, pend, footprint}
 use Rattle.its_plain.specs.Plain.{Plain, Redistributor, conf_of, pend_of, joined}
 use Rattle.its_plain.specs.declared.call.Call.{Call}
+use Rattle.its_plain.specs.declared.call.Call.TheVariants as call
+use Rattle.its_plain.specs.declared.call.Reply.{Reply}
 use Rattle.plain_footprint.specs.Laws.{HasRedistributors, LeavesOthers}
 use Rattle.plain_footprint.proofs.Decided.{decides}
 use Rattle.plain_footprint.proofs.OtherParts.{leaves}
 use Rattle.plain_footprint.proofs.SameParts.{same_parts}
 use Rattle.trace_check.proofs.Redistributors.{answer_many}
-use Rattle.its_fit.specs.Commuting.{BothOrders, CommuteAsTold, IsSmall}
-use Rattle.its_fit.specs.Reaches.{IsBounded, IsWithin, are_apart, reach_of}
-use Rattle.its_fit.specs.declared.bounds.Bounds.{Bounds}
+use Rattle.its_fit.specs.Commuting.{BothOrders, CallsCommute}
+use Rattle.its_fit.specs.Reaches.{IsWithin, are_apart, only_reads, reach_of}
 use Rattle.its_fit.specs.declared.reach.Reach.{Reach}
-use Rattle.its_fit.proofs.First.{answer_has, answer_small}
+use Rattle.its_fit.proofs.First.{answer_has}
 use Rattle.its_fit.proofs.Lists.{some_is}
-use Rattle.its_fit.proofs.Reaching.{AllWithin, footprint_within, apart_is}
+use Rattle.its_fit.proofs.Reaching.{AllWithin, within_at, footprint_within, apart_is}
 
 -- ---- parts that are the same
 
@@ -144,11 +144,9 @@ in_or_not : (p : Part) → HasNumber p → (ps : List Part) → AllByRecursion H
 in_or_not p i [] all = inr (λ (n, e). cc e)
 in_or_not p i (q ∷ ps) all = in_more p q ps (is_part p q i all.0) (in_or_not p i ps all.1)
 
--- ---- calls of which neither changes what the other reads or changes
+-- ---- calls that reach no part in common
 
-module _ (u : Plain) (c d : Call) (h : HasRedistributors u) (kept_c : (p : Part) → IsIn p (footprint u d) → SamePart u (answer u c).1 p)
-    (kept_d : (p : Part) → IsIn p (footprint u c) → SamePart u (answer u d).1 p)
-    (kept_then : (p : Part) → IsIn p (footprint u c) → SamePart (answer u c).1 (answer (answer u c).1 d).1 p) where
+module _ (u : Plain) (c d : Call) (h : HasRedistributors u) (apart : (v w : Plain) (p : Part) → IsIn p (footprint v c) → ¬ IsIn p (footprint w d)) where
   -- after each alone
   abbrev y : Plain
   y = (answer u d).1
@@ -180,7 +178,7 @@ module _ (u : Plain) (c d : Call) (h : HasRedistributors u) (kept_c : (p : Part)
     layout = by_d.layout;
     translators = by_d.translators;
     redistributors = sym (answer_many u d);
-    parts = kept_d;
+    parts = λ p here. by_d.parts p (λ there. apart u u p here there);
   }
 
   agree_d : AgreesOn u z (footprint u d)
@@ -188,7 +186,7 @@ module _ (u : Plain) (c d : Call) (h : HasRedistributors u) (kept_c : (p : Part)
     layout = by_c.layout;
     translators = by_c.translators;
     redistributors = sym (answer_many u c);
-    parts = kept_c;
+    parts = λ p here. by_c.parts p (λ there. apart u u p there here);
   }
 
   -- what the second call leaves alone
@@ -200,7 +198,7 @@ module _ (u : Plain) (c d : Call) (h : HasRedistributors u) (kept_c : (p : Part)
 
   same_at : (p : Part) → IsIn p (footprint u c) ⊎ (¬ IsIn p (footprint u c)) → IsIn p (footprint u d) ⊎ (¬ IsIn p (footprint u d)) → SamePart one two p
   same_at p (inl here) other =
-      same_through one z two p (same_back z one p ((decides u y c agree_c).1 p here)) (kept_then p here)
+      same_through one z two p (same_back z one p ((decides u y c agree_c).1 p here)) (then_d.parts p (λ there. apart u z p here there))
   same_at p (inr out) (inl here) = same_through one y two p (stays_c p out) ((decides u z d agree_d).1 p here)
   same_at p (inr out) (inr none) =
       same_through one y two p (stays_c p out)
@@ -224,59 +222,40 @@ module _ (u : Plain) (c d : Call) (h : HasRedistributors u) (kept_c : (p : Part)
     same_all (Pend vcpu) = same_in (Pend vcpu) tt
     same_all (Shard its n) = tt
 
--- ---- by their bounds
+pub apart_commute : (c d : Call) → are_apart (reach_of c) (reach_of d) ≡ true → CallsCommute c d
+apart_commute c d e u h =
+    let apart : (v w : Plain) (p : Part) → IsIn p (footprint v c) → ¬ IsIn p (footprint w d) =
+    λ v w p here there. apart_is (reach_of c) (reach_of d) e p (within_at (reach_of c) (footprint v c) (footprint_within v c) p here)
+    (within_at (reach_of d) (footprint w d) (footprint_within w d) p there) in
+    both_orders u c d h apart
+    (same_all u c d h apart (have_numbers (reach_of c) (footprint u c) (footprint_within u c)) (have_numbers (reach_of d) (footprint u d) (footprint_within u d)))
 
-module _ (c d : Call) (text other : List ℕ) (a b : Bounds) (in_a : IsBounded c text a) (in_b : IsBounded d other b) (apart : are_apart a.changes b.reach ≡ true)
-    (apart' : are_apart b.changes a.reach ≡ true) (u : Plain) (small : IsSmall u) (so_d : other ≡ answered_text d (reply_of u d))
-    (so_then : text ≡ answered_text c (reply_of (answer u d).1 c)) where
-  abbrev after_c : Plain
-  after_c = (answer u c).1
+-- ---- calls that only read
 
-  abbrev after_d : Plain
-  after_d = (answer u d).1
+reads_leave : (u : Plain) (c : Call) (r : Reply) → only_reads c ≡ true → left u c r ≡ u
+unfolding left
+reads_leave u (call.Show vcpu) r e = refl
+reads_leave u (call.Best vcpu mask) r e = refl
+reads_leave u (call.Peek addr count) r e = refl
+reads_leave u (call.ReadReg its off size) r e = refl
+reads_leave u (call.ReadGicr vcpu off size) r e = refl
+reads_leave u (call.Signal its dev ev) r e = absurd (cc e)
+reads_leave u (call.Take vcpu) r e = absurd (cc e)
+reads_leave u (call.Claim vcpu intid) r e = absurd (cc e)
+reads_leave u (call.Poke addr bytes) r e = absurd (cc e)
+reads_leave u (call.WriteReg its off size value) r e = absurd (cc e)
+reads_leave u (call.WriteGicr vcpu off size value) r e = absurd (cc e)
+reads_leave u (call.Step its) r e = absurd (cc e)
+reads_leave u call.Save r e = absurd (cc e)
+reads_leave u call.Copy r e = absurd (cc e)
+reads_leave u (call.Dma req addr bytes to) r e = absurd (cc e)
 
-  first_d : LeavesOthers u d
-  first_d = leaves u d small.has
-
-  -- what c reaches is as before d, so that c is answered there as after it
-  before : AgreesOn after_d u (footprint after_d c)
-  before = record {
-    layout = sym first_d.layout;
-    translators = sym first_d.translators;
-    redistributors = answer_many u d;
-    parts = λ p here. same_back u after_d p
-        (in_b.stays u p small so_d
-        (λ changed. apart_is b.changes a.reach apart' p changed (in_a.reaches after_d p (answer_small u d small) so_then here)));
-  }
-
-  so_c : text ≡ answered_text c (reply_of u c)
-  so_c = so_then ∙ ap (answered_text c) (decides after_d u c before).0
-
-  left_by_c : (p : Part) → IsIn p (footprint u d) → SamePart u after_c p
-  left_by_c p here = in_a.stays u p small so_c (λ changed. apart_is a.changes b.reach apart p changed (in_b.reaches u p small so_d here))
-
-  left_by_d : (p : Part) → IsIn p (footprint u c) → SamePart u after_d p
-  left_by_d p here = in_b.stays u p small so_d (λ changed. apart_is b.changes a.reach apart' p changed (in_a.reaches u p small so_c here))
-
-  first_c : LeavesOthers u c
-  first_c = leaves u c small.has
-
-  -- and d after c as before it
-  so_after : other ≡ answered_text d (reply_of after_c d)
-  so_after = so_d ∙ ap (answered_text d)
-      (decides u after_c d (record { layout = first_c.layout; translators = first_c.translators; redistributors = sym (answer_many u c); parts = left_by_c })).0
-
-  left_then : (p : Part) → IsIn p (footprint u c) → SamePart after_c (answer after_c d).1 p
-  left_then p here =
-      in_b.stays after_c p (answer_small u c small) so_after
-      (λ changed. apart_is b.changes a.reach apart' p changed (in_a.reaches u p small so_c here))
-
-  commute_here : BothOrders u c d
-  commute_here =
-      both_orders u c d small.has left_by_c left_by_d left_then
-      (same_all u c d small.has left_by_c left_by_d left_then (have_numbers (reach_of c) (footprint u c) (footprint_within u c))
-      (have_numbers (reach_of d) (footprint u d) (footprint_within u d)))
-
-pub bounded_commute : (c d : Call) (text other : List ℕ) (a b : Bounds) → are_apart a.changes b.reach ≡ true → are_apart b.changes a.reach ≡ true
-    → IsBounded c text a → IsBounded d other b → CommuteAsTold c text d other
-bounded_commute c d text other a b apart apart' in_a in_b u small so_d so_then = commute_here c d text other a b in_a in_b apart apart' u small so_d so_then
+pub reads_commute : (c d : Call) → only_reads c ≡ true → only_reads d ≡ true → CallsCommute c d
+reads_commute c d rc rd u h =
+    let kept_c : (v : Plain) → (answer v c).1 ≡ v = λ v. reads_leave v c (reply_of v c) rc in
+    let kept_d : (v : Plain) → (answer v d).1 ≡ v = λ v. reads_leave v d (reply_of v d) rd in
+    record {
+      reply = ap (λ (v : Plain). reply_of v c) (sym (kept_d u));
+      other_reply = ap (λ (v : Plain). reply_of v d) (sym (kept_c u));
+      left = kept_c (answer u d).1 ∙ kept_d u ∙ sym (kept_c u) ∙ sym (kept_d (answer u c).1);
+    }

@@ -8,20 +8,17 @@ use Rattle.its_plain.specs.Described.{IsFirstState}
 use Rattle.its_plain.specs.Machine.{HasTablesFor}
 use Rattle.its_plain.specs.Plain.{Plain}
 use Rattle.its_plain.specs.Runs.{Phase}
-use Rattle.its_plain.specs.Sound.{IsShape}
 use Rattle.its_plain.specs.declared.call.Call.{Call}
 use Rattle.its_plain.specs.declared.desc.Desc.{Desc}
 use Rattle.its_history.specs.Texts.{answered_text}
 use Rattle.trace_check.specs.Differences.{pending_texts}
-use Rattle.its_fit.specs.Commuting.{BothOrders, CommuteAsTold}
-use Rattle.its_fit.specs.Reaches.{IsBounded, IsKnown}
-use Rattle.its_fit.specs.Replays.{call_at, told_at, left_by, played, made_at, IsAnsweredSo, Goes, IsEnd}
-use Rattle.its_fit.specs.declared.bounds.Bounds.{Bounds}
+use Rattle.its_fit.specs.Commuting.{BothOrders, CallsCommute}
+use Rattle.its_fit.specs.Replays.{call_at, left_by, played, made_at, IsAnsweredSo, Goes, IsEnd}
 use Rattle.its_fit.specs.declared.replay.Made.{Made}
 use Rattle.its_fit.specs.declared.told.Answered.{Answered}
 use Rattle.its_fit.specs.declared.told.Told.{Told}
-use Rattle.its_fit.proofs.First.{first_small, played_small}
-use Rattle.its_fit.proofs.Played.{played_more}
+use Rattle.its_fit.proofs.First.{first_has, played_has}
+use Rattle.its_fit.proofs.Fitting.{played_more}
 use Rattle.its_fit.proofs.Lists.{some_is}
 
 -- ---- logs that leave the same
@@ -66,35 +63,15 @@ so_too calls told u v i k c is same s =
       so = s.so ∙ ap (λ (x : Call). answered_text x (reply_of u x)) one ∙ ap (answered_text c) same;
     }
 
-text_is : (calls : Phase) (told : List (List Answered)) (u : Plain) (i k : ℕ) (c : Call) (a : Answered) → call_at calls i k ≡ Some c → told_at told i k ≡ Some a
-    → IsAnsweredSo calls told u i k → a.text ≡ answered_text c (reply_of u c)
-text_is calls told u i k c a is_call is_told s =
-    let one : s.call ≡ c = some_is (sym s.is_call ∙ is_call) in
-    let same : s.answered ≡ a = some_is (sym s.is_told ∙ is_told) in
-    ap (λ (x : Answered). x.text) (sym same) ∙ s.so ∙ ap (λ (x : Call). answered_text x (reply_of u x)) one
-
-module _ (d : Desc) (calls : Phase) (told : Told) (shape : IsShape d.shape) (h : HasTablesFor d.shape.vcpus d.tables) (i k j l : ℕ) (a b : Bounds)
-    (in_a : IsKnown calls told.threads i k a) (in_b : IsKnown calls told.threads j l b)
-    (commute : (c e : Call) (s t : List ℕ) → IsBounded c s a → IsBounded e t b → CommuteAsTold c s e t) where
-  abbrev c : Call
-  c = in_a.call
-
-  abbrev e : Call
-  e = in_b.call
-
+module _ (d : Desc) (calls : Phase) (told : Told) (h : HasTablesFor d.shape.vcpus d.tables) (i k j l : ℕ) (c e : Call) (is_c : call_at calls i k ≡ Some c)
+    (is_e : call_at calls j l ≡ Some e) (commute : CallsCommute c e) where
   -- after one more call
-  after : (log : List Made) (x y : ℕ) (z : Call) → call_at calls x y ≡ Some z → (first : Plain)
-      → played calls first (log ++ made_at x y ∷ []) ≡ (answer (played calls first log) z).1
-  after log x y z is first = played_more calls first log (made_at x y) ∙ ap (left_by (played calls first log)) is
+  after : (log : List Made) (x y : ℕ) (a : Call) → call_at calls x y ≡ Some a → (first : Plain)
+      → played calls first (log ++ made_at x y ∷ []) ≡ (answer (played calls first log) a).1
+  after log x y a is first = played_more calls first log (made_at x y) ∙ ap (left_by (played calls first log)) is
 
-  both : (log : List Made) (first : Plain) → IsFirstState d first → IsAnsweredSo calls told.threads (played calls first log) j l
-      → IsAnsweredSo calls told.threads (played calls first (log ++ made_at j l ∷ [])) i k → BothOrders (played calls first log) c e
-  both log first is one then =
-      let u : Plain = played calls first log in
-      commute c e in_a.answered.text in_b.answered.text in_a.bounded in_b.bounded u (played_small calls first log (first_small d first shape h is))
-      (text_is calls told.threads u j l e in_b.answered in_b.is_call in_b.is_told one)
-      (text_is calls told.threads (answer u e).1 i k c in_a.answered in_a.is_call in_a.is_told
-      (subst (λ (v : Plain). IsAnsweredSo calls told.threads v i k) (after log j l e in_b.is_call first) then))
+  both : (log : List Made) (first : Plain) → IsFirstState d first → BothOrders (played calls first log) c e
+  both log first is = commute (played calls first log) (played_has calls first log (first_has d first h is))
 
   goes_before : (u v w : List Made) → Goes d calls told u j l v → Goes d calls told v i k w → GoesBefore (Goes d calls told) (IsEnd d calls told) i k j l u w
   goes_before u v w one two =
@@ -103,28 +80,26 @@ module _ (d : Desc) (calls : Phase) (told : Told) (shape : IsShape d.shape) (h :
       let then : (first : Plain) → IsFirstState d first → IsAnsweredSo calls told.threads (played calls first (u ++ n ∷ [])) i k =
       subst (λ (log : List Made). (first : Plain) → IsFirstState d first → IsAnsweredSo calls told.threads (played calls first log) i k) one.is_more two.so in
       let whole : w ≡ (u ++ n ∷ []) ++ m ∷ [] = two.is_more ∙ ap (λ (log : List Made). log ++ m ∷ []) one.is_more in
-      let here : (first : Plain) → IsFirstState d first → BothOrders (played calls first u) c e = λ first is. both u first is (one.so first is) (then first is) in
       record {
         between = u ++ m ∷ [];
         first = record {
-          so = λ first is. so_too calls told.threads (played calls first (u ++ n ∷ [])) (played calls first u) i k c in_a.is_call
-              (ap (λ (x : Plain). reply_of x c) (after u j l e in_b.is_call first) ∙ sym (here first is).reply) (then first is);
+          so = λ first is. so_too calls told.threads (played calls first (u ++ n ∷ [])) (played calls first u) i k c is_c
+              (ap (λ (x : Plain). reply_of x c) (after u j l e is_e first) ∙ sym (both u first is).reply) (then first is);
           is_more = refl;
         };
         after = (u ++ m ∷ []) ++ n ∷ [];
         second = record {
-          so = λ first is. so_too calls told.threads (played calls first u) (played calls first (u ++ m ∷ [])) j l e in_b.is_call
-              ((here first is).other_reply ∙ ap (λ (x : Plain). reply_of x e) (sym (after u i k c in_a.is_call first))) (one.so first is);
+          so = λ first is. so_too calls told.threads (played calls first u) (played calls first (u ++ m ∷ [])) j l e is_e
+              ((both u first is).other_reply ∙ ap (λ (x : Plain). reply_of x e) (sym (after u i k c is_c first))) (one.so first is);
           is_more = refl;
         };
         fits_too = λ threads front order f.
             alike_fits d calls told threads front ((u ++ n ∷ []) ++ m ∷ []) ((u ++ m ∷ []) ++ n ∷ []) order
-            (λ first is. after (u ++ n ∷ []) i k c in_a.is_call first ∙ ap (λ (x : Plain). (answer x c).1) (after u j l e in_b.is_call first) ∙ (here first is).left
-            ∙ ap (λ (x : Plain). (answer x e).1) (sym (after u i k c in_a.is_call first)) ∙ sym (after (u ++ m ∷ []) j l e in_b.is_call first))
+            (λ first is. after (u ++ n ∷ []) i k c is_c first ∙ ap (λ (x : Plain). (answer x c).1) (after u j l e is_e first) ∙ (both u first is).left
+            ∙ ap (λ (x : Plain). (answer x e).1) (sym (after u i k c is_c first)) ∙ sym (after (u ++ m ∷ []) j l e is_e first))
             (subst (λ (log : List Made). Fits (Goes d calls told) (IsEnd d calls told) threads front log order) whole f);
       }
 
-pub exchanged : (d : Desc) (calls : Phase) (told : Told) → IsShape d.shape → HasTablesFor d.shape.vcpus d.tables → (i k j l : ℕ) (a b : Bounds)
-    → IsKnown calls told.threads i k a → IsKnown calls told.threads j l b
-    → ((c e : Call) (s t : List ℕ) → IsBounded c s a → IsBounded e t b → CommuteAsTold c s e t) → Commutes (Goes d calls told) (IsEnd d calls told) i k j l
-exchanged d calls told shape h i k j l a b in_a in_b commute u v w one two = goes_before d calls told shape h i k j l a b in_a in_b commute u v w one two
+pub exchanged : (d : Desc) (calls : Phase) (told : Told) → HasTablesFor d.shape.vcpus d.tables → (i k j l : ℕ) (c e : Call) → call_at calls i k ≡ Some c
+    → call_at calls j l ≡ Some e → CallsCommute c e → Commutes (Goes d calls told) (IsEnd d calls told) i k j l
+exchanged d calls told h i k j l c e is_c is_e commute u v w one two = goes_before d calls told h i k j l c e is_c is_e commute u v w one two

@@ -1,5 +1,5 @@
 -- A machine has as many redistributors as its layout says, whatever calls it was asked.
-use Rattle.std.proofs.Common.{◌≡◌, ℕ, suc, ◌^◌, ◌≤◌, Bool, true, false, List, [], ◌∷◌, length, map, take, Option, Some, None, Result, Ok, Err, IfOk, refl, sym, subst, ap, ◌∙◌, arith}
+use Rattle.std.proofs.Common.{◌≡◌, ℕ, suc, Bool, true, false, List, [], ◌∷◌, length, map, take, Option, Some, None, Result, Ok, Err, IfOk, refl, sym, subst, ap, ◌∙◌, arith}
 use Rattle.std.specs.Prelude.{ok_or}
 use Rattle.std.proofs.lemmas.List.{length-map, length-replicate, length-take-le}
 use Rattle.guest_windows.specs.Windows.{Window, zeros, read_at}
@@ -16,7 +16,6 @@ use Rattle.its_plain.specs.Described.{IsFirstState, StartsAt, values_of, is_rest
 use Rattle.its_plain.specs.Machine.{made, layout_of, ensure, ◌>>=◌, windows_fit, tables_inside, filled, all_frames_fit, all_new, first_redistributors}
 use Rattle.its_plain.specs.Machine.{idle_redistributor, bases_given, HasTablesFor}
 use Rattle.its_plain.specs.Runs.{Phase}
-use Rattle.its_plain.specs.Sound.{IsShape}
 use Rattle.its_plain.specs.declared.call.Call.{Call}
 use Rattle.its_plain.specs.declared.desc.Desc.{Desc}
 use Rattle.its_plain.specs.declared.desc.DescFault.{DescFault}
@@ -26,7 +25,6 @@ use Rattle.its_plain.specs.declared.desc.LpiTables.TheVariants.{Described, Regis
 use Rattle.plain_footprint.specs.Laws.{HasRedistributors}
 use Rattle.plain_footprint.proofs.OtherParts.{leaves}
 use Rattle.trace_check.proofs.Redistributors.{answer_many}
-use Rattle.its_fit.specs.Commuting.{IsSmall}
 use Rattle.its_fit.specs.Replays.{call_at, left_by, played}
 use Rattle.its_fit.specs.declared.replay.Made.{Made}
 
@@ -97,13 +95,6 @@ first_sized d u h is =
     let base : IsSized d is.base = subst (λ (r : Result Plain DescFault). IfOk r (IsSized d)) is.made_is (made_sized d h) in
     subst (IsSized d) (sym is.kept) (kept_sized d d.from_kvm is.read (starts_sized d (is_restored d) (values_of d) is.base is.read h base is.starts))
 
-pub first_small : (d : Desc) (u : Plain) → IsShape d.shape → HasTablesFor d.shape.vcpus d.tables → IsFirstState d u → IsSmall u
-first_small d u shape h is =
-    let s : IsSized d u = first_sized d u h is in record {
-      has = record { vcpus = s.count ∙ ap (λ l. l.shape.vcpus) (sym s.layout) };
-      few = omega (arith, s.count, shape.most_vcpus);
-    }
-
 pub first_has : (d : Desc) (u : Plain) → HasTablesFor d.shape.vcpus d.tables → IsFirstState d u → HasRedistributors u
 first_has d u h is =
     let s : IsSized d u = first_sized d u h is in record { vcpus = s.count ∙ ap (λ l. l.shape.vcpus) (sym s.layout) }
@@ -120,15 +111,3 @@ left_has u (Some c) h = answer_has u c h
 pub played_has : (calls : Phase) (u : Plain) (log : List Made) → HasRedistributors u → HasRedistributors (played calls u log)
 played_has calls u [] h = h
 played_has calls u (m ∷ log) h = played_has calls (left_by u (call_at calls m.thread m.call)) log (left_has u (call_at calls m.thread m.call) h)
-
-pub answer_small : (u : Plain) (c : Call) → IsSmall u → IsSmall (answer u c).1
-answer_small u c s = record { has = answer_has u c s.has; few = subst (λ (n : ℕ). n ≤ 2 ^ 16) (sym (answer_many u c)) s.few }
-
-left_small : (u : Plain) (o : Option Call) → IsSmall u → IsSmall (left_by u o)
-left_small u None s = s
-left_small u (Some c) s = answer_small u c s
-
-pub played_small : (calls : Phase) (u : Plain) (log : List Made) → IsSmall u → IsSmall (played calls u log)
-played_small calls u [] s = s
-played_small calls u (m ∷ log) s =
-    played_small calls (left_by u (call_at calls m.thread m.call)) log (left_small u (call_at calls m.thread m.call) s)

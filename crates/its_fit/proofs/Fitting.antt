@@ -31,7 +31,6 @@ use Rattle.its_fit.specs.declared.told.Answered.{Answered}
 use Rattle.its_fit.specs.declared.told.Told.{Told}
 use Rattle.its_fit.proofs.Lists.{head_is, tail_is, some_is, left_head, left_tail, left_none, left_some, drop_none, get_map, zeros_at}
 use Rattle.its_fit.proofs.Once.{first_once}
-use Rattle.its_fit.proofs.Played.{played_more}
 use Rattle.its_fit.proofs.Merged.{lines_here, lines_else, had_begun}
 
 -- ---- spans
@@ -69,6 +68,13 @@ next_some threads f i span e =
           let none : (let o : Option Span = None in o) ≡ Some span = sym past ∙ e in
           absurd (cc none)
     ]
+
+-- ---- replays
+
+pub played_more : (calls : Phase) (u : Plain) (log : List Made) (m : Made)
+    → played calls u (log ++ m ∷ []) ≡ left_by (played calls u log) (call_at calls m.thread m.call)
+played_more calls u [] m = refl
+played_more calls u (x ∷ log) m = played_more calls (left_by u (call_at calls x.thread x.call)) log m
 
 -- ---- entries
 

@@ -158,7 +158,7 @@ both_true true true e = (refl, refl)
 both_true true false e = absurd (cc e)
 both_true false b e = absurd (cc e)
 
-pub not_true : (b : Bool) → not b ≡ true → b ≡ false
+not_true : (b : Bool) → not b ≡ true → b ≡ false
 not_true true e = absurd (cc e)
 not_true false e = refl
 

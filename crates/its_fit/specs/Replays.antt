@@ -1,5 +1,5 @@
 -- Calls that are made again, and what a search for an order is told of them.
-use Rattle.std.specs.Prelude.{◌≡◌, ℕ, false, List, [], ◌∷◌, ◌++◌, length, map, slice_get, slice_index_or, Option, Some, None}
+use Rattle.std.specs.Prelude.{◌≡◌, ℕ, List, [], ◌∷◌, ◌++◌, length, map, slice_get, slice_index_or, Option, Some, None}
 use Rattle.front_search.specs.Fits.{Fits}
 use Rattle.front_search.specs.Fronts.{Threads, start}
 use Rattle.its_plain.specs.Plain.{Plain}
@@ -10,11 +10,9 @@ use Rattle.its_plain.specs.declared.desc.Desc.{Desc}
 use Rattle.its_plain.specs.declared.desc.LpiTables.{LpiTables}
 use Rattle.its_plain.specs.declared.desc.LpiTables.TheVariants.{Described, Registers}
 use Rattle.its_plain.specs.declared.call.Call.{Call}
-use Rattle.its_plain.specs.declared.call.Call.TheVariants as call
 use Rattle.its_history.specs.Texts.{answered_text}
 use Rattle.trace_check.specs.Differences.{pending_texts}
 use Rattle.its_fit.specs.Explained.{told_by}
-use Rattle.its_fit.specs.declared.kept.Kept.{Kept}
 use Rattle.its_fit.specs.declared.replay.Made.{Made}
 use Rattle.its_fit.specs.declared.told.Answered.{Answered}
 use Rattle.its_fit.specs.declared.told.Told.{Told}
@@ -52,28 +50,6 @@ pub record IsAfter (d : Desc) (calls : Phase) (log : List Made) (u : Plain) : Ty
   pub first : Plain
   pub starts : IsFirstState d first
   pub state : u ≡ played calls first log
-
--- a call that is answered alike and changes nothing, where there is one
-abbrev pub shown : Call → Option Call
-shown (call.Take vcpu) = Some (call.Show vcpu)
-shown (call.Show vcpu) = Some (call.Show vcpu)
-shown (call.Best vcpu mask) = Some (call.Best vcpu mask)
-shown (call.Peek addr count) = Some (call.Peek addr count)
-shown (call.ReadReg its off size) = Some (call.ReadReg its off size)
-shown (call.ReadGicr vcpu off size) = Some (call.ReadGicr vcpu off size)
-shown (call.Signal its dev ev) = None
-shown (call.Claim vcpu intid) = None
-shown (call.Poke addr bytes) = None
-shown (call.WriteReg its off size value) = None
-shown (call.WriteGicr vcpu off size value) = None
-shown (call.Step its) = None
-shown call.Save = None
-shown call.Copy = None
-shown (call.Dma req addr bytes to) = None
-
--- a kept machine is after its calls, unless it is spoiled
-abbrev pub IsKept : Desc → Phase → Kept → Type 0
-IsKept d calls kept = kept.is_spoiled ≡ false → IsAfter d calls kept.log.items kept.machine
 
 -- after some calls on the machine of a description a call is answered as it was, and it comes after them
 pub record Goes (d : Desc) (calls : Phase) (told : Told) (log : List Made) (i k : ℕ) (more : List Made) : Type 0 where

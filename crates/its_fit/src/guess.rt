@@ -3,8 +3,10 @@
 //! search, no other is tried in the place of a call that commutes with all that may stand before it,
 //! and a thread that was tried isn't tried again while calls are placed with which its own commutes.
 use crate::recording::{Recording, is_pending, told_at};
-use crate::replay::Made;
+use crate::replay::{Made, call_at};
 use front_search::{Recorded, Span};
+use its_history::reply_text;
+use its_plain::Call;
 use owned_machine::Machine;
 use std::alloc::{AllocError, Global};
 use std::mem::replace;
@@ -154,7 +156,7 @@ impl Walk {
         let tried = self.tried;
         let alone = self.goes_at_once(recording, made);
         self.tried = if alone { u64::MAX } else { tried | bit(thread) };
-        if recording.shows_other(alloc, &mut self.machine, made)? {
+        if self.shows_other(alloc, recording, made)? {
             return Ok(true);
         }
         if recording.goes(alloc, &mut self.machine, made)? {
@@ -225,6 +227,29 @@ impl Walk {
             }
         }
         still
+    }
+
+    /// Whether an acknowledgement would be answered otherwise. This leaves the machine as it was.
+    fn shows_other(
+        &mut self,
+        alloc: Global,
+        recording: &Recording<'_>,
+        made: Made,
+    ) -> Result<bool, AllocError> {
+        let Some(Call::Take(vcpu)) = call_at(recording.calls, made) else {
+            return Ok(false);
+        };
+        let Some(told) = told_at(recording.told.threads.as_slice(), made) else {
+            return Ok(false);
+        };
+        let reply = self.machine.answer(alloc, &Call::Show(vcpu))?;
+        let text = reply_text(alloc, &reply)?;
+        let is_so = told
+            .text
+            .as_str()
+            .as_bytes()
+            .ends_with(text.as_str().as_bytes());
+        Ok(!is_so)
     }
 
     /// Makes the machine again, if it is spoiled. It answers whether that was not too much.

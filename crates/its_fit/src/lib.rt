@@ -2,15 +2,12 @@
 //! knows in which order their calls took effect, but only when each began and returned.
 #![tactic(auto)]
 
-mod bounds;
 mod guess;
-mod kept;
 mod lines;
 mod reach;
 mod recording;
 mod replay;
 mod search;
-mod targets;
 mod told;
 mod trail;
 

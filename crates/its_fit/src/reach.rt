@@ -1,6 +1,6 @@
-//! Which parts of the machine a call may read or change, and which of them it may change, in
-//! whatever state it is made.
-ghost use Rattle.std.specs.Prelude.{◌≡◌};
+//! Which parts of the machine a call may read or change, in whatever state it is made.
+ghost use Rattle.std.specs.Prelude.{◌≡◌, true};
+ghost use Rattle.its_fit.specs.Commuting.{CallsCommute};
 ghost use Rattle.its_fit.specs.Reaches as spec;
 
 use its_plain::{Call, Route};
@@ -8,7 +8,7 @@ use its_types::Vcpu;
 
 /// Numbers of translators or virtual processors.
 #[derive(Clone, Copy)]
-pub enum Numbers {
+enum Numbers {
     Empty,
     Single(u16),
     Every,
@@ -16,86 +16,44 @@ pub enum Numbers {
 
 /// Parts of the machine.
 #[derive(Clone, Copy)]
-pub struct Reach {
+struct Reach {
     /// The registers and maps of these translators.
-    pub maps: Numbers,
+    maps: Numbers,
     /// Guest memory, with its copy.
-    pub memory: bool,
+    memory: bool,
     /// The LPI registers and configurations of these virtual processors.
-    pub confs: Numbers,
+    confs: Numbers,
     /// What is pending at these.
-    pub pends: Numbers,
+    pends: Numbers,
 }
 
-/// Whether a call is a message to a translator.
-pub fn is_message(call: &Call) -> bool
-    ensures { result ≡ spec.is_message call.now }
+/// Whether two calls are known to commute: each only reads, or they reach no part in common.
+pub fn commute(call: &Call, other: &Call) -> bool
+    ensures { result ≡ true → CallsCommute call.now other.now }
+{
+    if only_reads(call) && only_reads(other) {
+        return true;
+    }
+    are_apart(reach_of(call), reach_of(other))
+}
+
+/// Whether a call changes nothing, whatever it is answered.
+fn only_reads(call: &Call) -> bool
+    ensures { result ≡ spec.only_reads call.now }
 {
     match call {
-        Call::Signal { .. } => true,
-        Call::Dma { route, .. } => is_signal_route(*route),
+        Call::Show(_) => true,
+        Call::Best { .. } => true,
+        Call::Peek { .. } => true,
+        Call::ReadReg { .. } => true,
+        Call::ReadGicr { .. } => true,
         _ => false,
     }
 }
 
-/// Whether a write by address is a message.
-fn is_signal_route(to: Route) -> bool
-    ensures { result ≡ spec.is_signal_route to }
-{
-    match to {
-        Route::Signal { .. } => true,
-        _ => false,
-    }
-}
-
-/// What a call may change, whatever it is answered.
-pub fn changes_of(call: &Call) -> Reach
-    ensures { result ≡ spec.changes_of call.now }
-{
-    match *call {
-        Call::Signal { .. } => pending_at(Numbers::Every),
-        Call::Take(vcpu) => pending_at(Numbers::Single(vcpu.0)),
-        Call::Claim { vcpu, .. } => pending_at(Numbers::Single(vcpu.0)),
-        Call::Poke { .. } => memory(),
-        Call::WriteReg { its, .. } => translator(u16::from(its)),
-        Call::WriteGicr { vcpu, .. } => redistributor(vcpu),
-        Call::Step { its } => Reach {
-            memory: false,
-            ..everything(Numbers::Single(u16::from(its)))
-        },
-        Call::Save => memory(),
-        Call::Copy => memory(),
-        Call::Dma { route, .. } => changes_of_route(route),
-        Call::Show(_) => nothing(),
-        Call::Best { .. } => nothing(),
-        Call::Peek { .. } => nothing(),
-        Call::ReadReg { .. } => nothing(),
-        Call::ReadGicr { .. } => nothing(),
-    }
-}
-
-/// What a write by address may change.
-fn changes_of_route(to: Route) -> Reach
-    ensures { result ≡ spec.changes_of_route to }
-{
-    match to {
-        Route::Signal { .. } => pending_at(Numbers::Every),
-        Route::Poke => memory(),
-        Route::NoRequester => nothing(),
-        Route::Frame => nothing(),
-    }
-}
-
-/// What is pending at some virtual processors.
-pub fn pending_at(pends: Numbers) -> Reach
-    ensures { result ≡ spec.pending_at pends }
-{
-    Reach { pends, ..nothing() }
-}
-
-/// What a call may read or change. A signal goes to a virtual processor that the maps tell, and a
-/// step may take any command.
-pub fn reach_of(call: &Call) -> Reach
+/// What a call reaches. A signal goes to a virtual processor that the maps tell, and a step may
+/// take any command.
+fn reach_of(call: &Call) -> Reach
     ensures { result ≡ spec.reach_of call.now }
 {
     match *call {
@@ -120,7 +78,7 @@ pub fn reach_of(call: &Call) -> Reach
     }
 }
 
-/// What a write by address may read or change.
+/// What a write by address reaches.
 fn reach_of_route(to: Route) -> Reach
     ensures { result ≡ spec.reach_of_route to }
 {
@@ -200,7 +158,7 @@ fn everything(maps: Numbers) -> Reach
 }
 
 /// Whether two reaches have no part in common.
-pub fn are_apart(one: Reach, other: Reach) -> bool
+fn are_apart(one: Reach, other: Reach) -> bool
     ensures { result ≡ spec.are_apart one other }
 {
     !meet(one.maps, other.maps)

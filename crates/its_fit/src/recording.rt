@@ -1,15 +1,16 @@
 //! What threads were answered, as a search for an order reads it.
-ghost use Rattle.std.specs.Prelude.{◌≡◌, ◌≤◌, ◌++◌, ◌∷◌, [], IfOk, OnOk, length, option_map, true};
+ghost use Rattle.std.specs.Prelude.{◌≡◌, ◌≤◌, ◌++◌, ◌∷◌, [], IfOk, length, option_map};
 ghost use Rattle.std.specs.Bool.{Decides};
 ghost use Rattle.its_plain.specs.Answer.{answer};
+ghost use Rattle.its_plain.specs.Described.{IsFirstState};
+ghost use Rattle.its_plain.specs.Plain.{Plain};
 ghost use Rattle.its_plain.specs.Sound.{IsShape};
 ghost use Rattle.its_history.specs.Texts.{answered_text};
 ghost use Rattle.trace_check.specs.Differences.{pending_texts};
 ghost use Rattle.its_fit.specs.Replays as spec;
-ghost use Rattle.its_fit.specs.Replays.{IsAfter, IsKept, left_by, table_count};
+ghost use Rattle.its_fit.specs.Replays.{IsAfter, table_count};
 
-use crate::bounds::{bounds_of, commute};
-use crate::kept::Kept;
+use crate::reach::commute;
 use crate::replay::{Made, call_at, remade, replay};
 use crate::told::{Answered, Told};
 use event_script::Calls;
@@ -60,11 +61,9 @@ impl<'a> Recording<'a> {
 
     /// Makes a call, and tells whether it is answered as it was.
     pub fn goes(&self, alloc: Global, machine: &mut Machine, made: Made) -> Result<bool, AllocError>
-        ensures so { IfOk result (λ b.
+        ensures { IfOk result (λ b.
             Decides b (spec.IsAnsweredSo self.now.calls.now self.now.told.now.threads machine.old
             made.thread made.call)) }
-        ensures left { IfOk result (λ b. b ≡ true → machine.new
-            ≡ left_by machine.old (spec.call_at self.now.calls.now made.thread made.call)) }
     {
         let Some(call) = call_at(self.calls, made) else {
             return Ok(false);
@@ -72,64 +71,42 @@ impl<'a> Recording<'a> {
         let Some(told) = told_at(self.told.threads.as_slice(), made) else {
             return Ok(false);
         };
-        let so = answers_so(alloc, machine, &call, &call, &told.text)?;
+        let so = answers_so(alloc, machine, &call, &told.text)?;
         Ok(so)
     }
 
-    /// Whether a call is known to be answered otherwise than it was, where that can be asked
-    /// without a change. It leaves the machine as it was.
-    pub fn shows_other(
-        &self,
-        alloc: Global,
-        machine: &mut Machine,
-        made: Made,
-    ) -> Result<bool, AllocError>
-        ensures other { IfOk result (λ b. b ≡ true → ¬ spec.IsAnsweredSo self.now.calls.now
-            self.now.told.now.threads machine.old made.thread made.call) }
-        ensures same { OnOk result (machine.new ≡ machine.old) }
+    /// Whether a call that is made after some others is answered as it was.
+    fn goes_after(&self, alloc: Global, log: &[Made], made: Made) -> Result<bool, AllocError>
+        ensures { IfOk result (λ b. Decides b
+            ((first : Plain) → IsFirstState self.now.desc.now first →
+            spec.IsAnsweredSo self.now.calls.now self.now.told.now.threads
+            (spec.played self.now.calls.now first log.now) made.thread made.call)) }
     {
-        let Some(call) = call_at(self.calls, made) else {
-            return Ok(false);
-        };
-        let Some(told) = told_at(self.told.threads.as_slice(), made) else {
-            return Ok(false);
-        };
-        let Some(shown) = shown(&call) else {
-            return Ok(false);
-        };
-        let so = answers_so(alloc, machine, &shown, &call, &told.text)?;
-        Ok(!so)
+        let mut machine = self.machine_after(alloc, log)?;
+        match self.goes(alloc, &mut machine, made) {
+            Ok(goes) => {
+                drop(machine);
+                Ok(goes)
+            }
+            Err(error) => {
+                drop(machine);
+                Err(error)
+            }
+        }
     }
 }
 
-/// A call that is answered alike and changes nothing, if there is one.
-fn shown(call: &Call) -> Option<Call>
-    ensures { result ≡ spec.shown call.now }
-{
-    match *call {
-        Call::Take(vcpu) => Some(Call::Show(vcpu)),
-        Call::Show(vcpu) => Some(Call::Show(vcpu)),
-        Call::Best { vcpu, mask } => Some(Call::Best { vcpu, mask }),
-        Call::Peek { addr, count } => Some(Call::Peek { addr, count }),
-        Call::ReadReg { its, off, size } => Some(Call::ReadReg { its, off, size }),
-        Call::ReadGicr { vcpu, off, size } => Some(Call::ReadGicr { vcpu, off, size }),
-        _ => None,
-    }
-}
-
-/// Asks a call, and tells whether a call and the reply have this text.
+/// Makes a call, and tells whether call and reply have this text.
 fn answers_so(
     alloc: Global,
     machine: &mut Machine,
-    asked: &Call,
     call: &Call,
     told: &Text,
 ) -> Result<bool, AllocError>
-    ensures so { IfOk result (λ b.
-        Decides b (told.now ≡ answered_text call.now (answer machine.old asked.now).0)) }
-    ensures left { OnOk result (machine.new ≡ (answer machine.old asked.now).1) }
+    ensures { IfOk result (λ b.
+        Decides b (told.now ≡ answered_text call.now (answer machine.old call.now).0)) }
 {
-    let reply = machine.answer(alloc, asked)?;
+    let reply = machine.answer(alloc, call)?;
     let text = answered_text(alloc, call, &reply)?;
     Ok(told.as_str() == text.as_str())
 }
@@ -164,52 +141,41 @@ fn with_one_more(alloc: Global, log: &[Made], made: Made) -> Result<Listed<Made>
 }
 
 impl<'a> Recorded<Listed<Made>> for Recording<'a> {
-    type Kept = Kept;
-
     ghost Goes = { λ r. spec.Goes r.desc.now r.calls.now r.told.now };
 
     ghost IsEnd = { λ r. spec.IsEnd r.desc.now r.calls.now r.told.now };
 
-    ghost IsOf = { λ k r. IsKept r.desc.now r.calls.now k };
-
-    fn begin(&self, alloc: Global) -> Result<Kept, AllocError> {
-        Kept::new(alloc, self)
-    }
-
     fn after(
         &self,
         alloc: Global,
-        kept: &mut Kept,
         state: &Listed<Made>,
         thread: usize,
         call: usize,
     ) -> Result<Option<Listed<Made>>, AllocError> {
         let made = Made { thread, call };
-        kept.bring(alloc, self, state.as_slice())?;
-        let goes = kept.goes(alloc, self, made)?;
+        let goes = self.goes_after(alloc, state.as_slice(), made)?;
         if !goes {
             return Ok(None);
         }
         Ok(Some(with_one_more(alloc, state.as_slice(), made)?))
     }
 
-    fn ends(
-        &self,
-        alloc: Global,
-        kept: &mut Kept,
-        state: &Listed<Made>,
-    ) -> Result<bool, AllocError> {
-        kept.bring(alloc, self, state.as_slice())?;
-        let ends = is_pending(alloc, kept.machine(), self.told.pending.as_slice())?;
-        Ok(ends)
+    fn ends(&self, alloc: Global, state: &Listed<Made>) -> Result<bool, AllocError> {
+        let machine = self.machine_after(alloc, state.as_slice())?;
+        match is_pending(alloc, &machine, self.told.pending.as_slice()) {
+            Ok(ends) => {
+                drop(machine);
+                Ok(ends)
+            }
+            Err(error) => {
+                drop(machine);
+                Err(error)
+            }
+        }
     }
 
     fn commutes(&self, thread: usize, call: usize, other_thread: usize, other_call: usize) -> bool {
-        let made = Made { thread, call };
-        let Some(asked) = call_at(self.calls, made) else {
-            return false;
-        };
-        let Some(told) = told_at(self.told.threads.as_slice(), made) else {
+        let Some(made) = call_at(self.calls, Made { thread, call }) else {
             return false;
         };
         let other = Made {
@@ -219,12 +185,6 @@ impl<'a> Recorded<Listed<Made>> for Recording<'a> {
         let Some(passed) = call_at(self.calls, other) else {
             return false;
         };
-        let Some(passed_told) = told_at(self.told.threads.as_slice(), other) else {
-            return false;
-        };
-        commute(
-            bounds_of(&asked, &told.text),
-            bounds_of(&passed, &passed_told.text),
-        )
+        commute(&made, &passed)
     }
 }

@@ -51,10 +51,10 @@ pub enum Verdict {
 /// stand on either side of it, and one that returned before it began fits nowhere.
 ///
 /// The leg is that of the recording, alone. A guess comes first, which goes by the times at which
-/// calls returned and is bounded by itself; once it has failed, at most `bound` calls are tried, on
-/// a machine that is made anew only where the search went back. Where one commutes with all that
-/// may stand before it, no other is tried in its place. A description that makes no machine is
-/// answered as if memory had run out.
+/// calls returned and is bounded by itself; once it has failed, at most `bound` calls are tried,
+/// each after all that come before it are made again. Where one commutes with all that may stand
+/// before it, no other is tried in its place. A description that makes no machine is answered as if
+/// memory had run out.
 pub fn fit(
     alloc: Global,
     recording: &Recording<'_>,

@@ -6,16 +6,13 @@ use Rattle.its_types.specs.declared.machine.Part.{Part}
 use Rattle.its_types.specs.declared.machine.Placed.{Placed}
 use Rattle.its_types.specs.declared.machine.Word.{Word}
 use Rattle.its_plain.specs.Answer.{save_reply}
-use Rattle.its_plain.specs.History.{after}
-use Rattle.its_plain.specs.Plain.{Plain}
 use Rattle.its_plain.specs.declared.call.Call.TheVariants as call
-use Rattle.its_plain.specs.declared.call.Reply.{Reply}
 use Rattle.its_plain.specs.declared.fault.SaveFault.{SaveFault}
 use Rattle.its_steps.proofs.Lists.{prefix_self}
 use Rattle.its_steps.specs.Calls.{staying}
 use Rattle.its_steps.specs.Contents.{Held}
 use Rattle.its_steps.specs.Parts.{Setup}
-use Rattle.its_steps.specs.World.{View, Tries, entry}
+use Rattle.its_steps.specs.World.{View, Tries}
 use Rattle.its_steps.specs.declared.change.ShardChange.TheVariants.{Keep}
 use Rattle.its_turns.specs.Calls.{IsPlaced, got_all, WasRaced, WasSpent, GoesOn, Makes, IsLost, IsMade, attempt_of}
 use Rattle.its_turns.specs.declared.attempts.Attempt.TheVariants as attempt
@@ -23,12 +20,12 @@ use Rattle.its_turns.specs.declared.attempts.Lost.{Lost}
 use Rattle.its_turns.specs.declared.attempts.Lost.TheVariants as lost
 use Rattle.its_turns.specs.declared.commits.Raced.{Raced}
 use Rattle.its_turns.specs.declared.turns.Busy.{Busy}
-use Rattle.its_turns.proofs.Telling.{goes_first, goes_looked, goes_emptied, lone_on, looked_from, stays_from, makes_from, made_emptied, placed_from, leaves_from}
+use Rattle.its_turns.proofs.Telling.{goes_looked, goes_emptied, lone_on, looked_from, stays_from, makes_from, made_emptied, placed_from, leaves_from}
 use Rattle.held_parts.specs.Once.{FindsBusy}
 use Rattle.held_parts.specs.Taking.{LostNone, holding}
 use Rattle.held_parts.specs.Wholes.{IsNoShard, TakesWhole}
 use Rattle.held_parts.specs.declared.whole.Whole.{Whole}
-use Rattle.its_migrate.specs.Tries.{TriesSave, IsGivenUp, WasAllowed, IfMadeAllowed}
+use Rattle.its_migrate.specs.Tries.{TriesSave}
 
 -- one part was another pass's
 pub save_busy : (v w : View) (b : Busy) → FindsBusy IsNoShard v b w → TriesSave v w (attempt.Busy b)
@@ -105,32 +102,3 @@ module _ (s : Setup) (v w : View) (x : Whole) (taken : TakesWhole s v x w) (none
   pub save_lost : (l : Lost) (y z : View) → IsLost w l y → z ≡ holding y [] → TriesSave v z (attempt_of l)
   save_lost lost.Spent y z spent home = (got, taken.got.only, save_spent y z spent home)
   save_lost (lost.Raced r) y z raced home = (got, taken.got.only, save_raced r y z raced home)
-
-  -- or it was given up
-  pub save_given_up : (z : View) → z ≡ holding w [] → IsGivenUp v z
-  save_given_up z home =
-      let back = goes_emptied v w t goes z home in
-      (got, taken.got.only, record { stays = stays_from v z t back (empty_home w z home); tries = back.tries })
-
-  -- ---- a rule, of the state that was seen with all parts in hand
-
-  pub save_allowed : (ok : Plain → Type 0) → ok (after s.start w.seen) → (word : Word) (reply : Reply) (y z : View)
-      → Makes w (staying word call.Save reply Keep) y → z ≡ holding y [] → WasAllowed ok s.start v z
-  save_allowed ok is word reply y z makes home =
-      let made : IsMade w w.tries (staying word call.Save reply Keep) y = makes_from w w w.tries (goes_first w) (staying word call.Save reply Keep) y makes in
-      record {
-        before = w.seen;
-        between = made.between;
-        last = entry w.number call.Save reply;
-        longer = taken.longer;
-        seen = ap (λ (k : View). k.seen) home ∙ made.seen;
-        is = is;
-      }
-
-  pub save_forbidden : (bad : Plain → Type 0) → bad (after s.start w.seen) → (z : View) → z ≡ holding w [] → bad (after s.start z.seen)
-  save_forbidden bad is z home = subst (λ (k : View). bad (after s.start k.seen)) (sym home) is
-
--- a save that lost was not made
-pub lost_unmade : (ok : Plain → Type 0) (start : Plain) (v w : View) (l : Lost) → IfMadeAllowed ok start v w (attempt_of l)
-lost_unmade ok start v w lost.Spent = tt
-lost_unmade ok start v w (lost.Raced r) = tt

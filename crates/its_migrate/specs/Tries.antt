@@ -1,13 +1,9 @@
 -- The outcome of a save that waits for nobody.
-use Rattle.std.specs.Prelude.{◌≡◌, List, [], ◌∷◌, ◌++◌, Result}
+use Rattle.std.specs.Prelude.{◌≡◌, List, Result}
 use Rattle.std.specs.List.{AllByRecursion}
-use mathlib.Core.List.{IsPrefix}
 use Rattle.its_types.specs.declared.machine.Part.{Part}
 use Rattle.its_plain.specs.Answer.{save_reply}
-use Rattle.its_plain.specs.History.{after}
-use Rattle.its_plain.specs.Plain.{Plain}
 use Rattle.its_plain.specs.declared.call.Call.TheVariants as call
-use Rattle.its_plain.specs.declared.call.Entry.{Entry}
 use Rattle.its_plain.specs.declared.fault.SaveFault.{SaveFault}
 use Rattle.its_steps.specs.World.{View}
 use Rattle.its_steps.specs.declared.change.ShardChange.TheVariants.{Keep}
@@ -24,26 +20,6 @@ TriesSave v w (attempt.Busy b) = (got : List Part) × AllByRecursion IsNoShard g
 TriesSave v w (attempt.Raced r) = (got : List Part) × AllByRecursion IsNoShard got × WasRaced v got r w
 TriesSave v w attempt.Spent = (got : List Part) × AllByRecursion IsNoShard got × WasSpent v got w
 
--- it was given up before it was made, and what had been got was given back
-abbrev pub IsGivenUp : View → View → Type 0
-IsGivenUp v w = (got : List Part) × AllByRecursion IsNoShard got × GaveUp v got w
-
--- so where there was no memory for it
+-- there was no memory for it, and what had been got was given back
 abbrev pub HadNoMemory : View → View → Type 0
-HadNoMemory v w = IsGivenUp v w
-
--- ---- a rule
-
--- The save was made, and such a state was allowed: one that the pass had seen with all parts in hand. Calls that need none of them
--- may stand between
-pub record WasAllowed (allowed : Plain → Type 0) (start : Plain) (v w : View) : Type 0 where
-  pub before : List Entry
-  pub between : List Entry
-  pub last : Entry
-  pub longer : IsPrefix v.seen before
-  pub seen : w.seen ≡ (before ++ between) ++ last ∷ []
-  pub is : allowed (after start before)
-
-abbrev pub IfMadeAllowed : (Plain → Type 0) → Plain → View → View → Attempt (Result (Unit {0}) SaveFault) → Type 0
-IfMadeAllowed allowed start v w (attempt.Done x) = WasAllowed allowed start v w
-IfMadeAllowed allowed start v w other = Unit {0}
+HadNoMemory v w = (got : List Part) × AllByRecursion IsNoShard got × GaveUp v got w

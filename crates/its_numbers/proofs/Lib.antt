@@ -1,4 +1,3 @@
 pub mod LooseValues
 pub mod ToldLists
 pub mod ToldFrom
-pub mod RoutesStay

@@ -1,5 +1,4 @@
 pub mod Codes
-pub mod Counters
 pub mod Descriptions
 pub mod Events
 pub mod Faults
@@ -7,6 +6,5 @@ pub mod Limits
 pub mod Lists
 pub mod Mapped
 pub mod Replies
-pub mod Routes
 pub mod Stored
 pub mod Unmade

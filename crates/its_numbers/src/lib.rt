@@ -1,11 +1,8 @@
 //! What the static libraries have in common: descriptions, faults, replies, lists and answers as
-//! the numbers that they are for callers in other languages, what they count, and a box by its
-//! pointer.
+//! the numbers that they are for callers in other languages, and a box by its pointer.
 #![tactic(auto)]
 
 mod codes;
-mod concerned;
-mod counters;
 mod describing;
 mod events;
 mod faults;
@@ -16,11 +13,8 @@ mod mapped;
 mod numbers;
 mod replies;
 mod room;
-mod routes;
 
 pub use codes::{BUSY, DONE, FAULT, FULL, HANDLE, NO_MEMORY, OUTSIDE, RANGE, SPENT};
-pub use concerned::concerned_words;
-pub use counters::{Counters, RefusedCounts, SignalCounts};
 pub use describing::{description, is_in_range};
 pub use events::{EventOut, event_out};
 pub use faults::{MakeFaultOut, NO_FAULT, SaveFaultOut, make_fault_out, save_fault_out};
@@ -32,5 +26,4 @@ pub use mapped::{
 };
 pub use numbers::{DescriptionIn, FillIn, RedistributorIn, RequestersIn, WindowIn};
 pub use replies::{AckOut, DmaOut, SignalOut, StepOut, ack_out, dma_out, signal_out, step_out};
-pub use room::{has_room, is_within, missing, missing_in};
-pub use routes::{is_no_table, next_count, step_leaves_maps};
+pub use room::{has_room, is_within, missing};

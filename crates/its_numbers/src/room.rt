@@ -48,15 +48,6 @@ pub fn missing(memory: &Memory, address: u64, length: u64) -> u64 {
     }
 }
 
-/// How many pages some stretches want that aren't held: for each as many as `missing` says.
-pub fn missing_in(memory: &Memory, stretches: &[(Addr, u64)]) -> u64 {
-    let mut pages: u64 = 0;
-    for stretch in stretches {
-        pages = pages.saturating_add(missing(memory, stretch.0.0, stretch.1));
-    }
-    pages
-}
-
 // How many pages are held. At most so many are counted.
 fn held(memory: &Memory, most: u64) -> u64
     ensures { result ≤ most }

@@ -1,7 +1,7 @@
 -- What the tests of a commit tell.
 use Rattle.std.proofs.Common.{◌≡◌, ◌⊎◌, ℕ, zero, suc, ◌+◌, ◌<◌, ◌≤◌, length, take, arith, Bool, true, false, not, ◌&&◌, ◌||◌, eqb, List, [], ◌∷◌, get_or}
 use Rattle.std.proofs.Common.{Option, Some, None, is_some, Ok, refl, ap, sym, ◌∙◌, subst, inl, inr, ⊎_elim}
-use Rattle.std.specs.Prelude.{Result, Err, IfOk, MatchOption}
+use Rattle.std.specs.Prelude.{Result, Err, IfOk}
 use Rattle.std.specs.Bool.{Decides}
 use Rattle.std.specs.List.{AllByRecursion, list_any}
 use Rattle.std.specs.Option.{ok_or}
@@ -9,11 +9,7 @@ use Rattle.its_types.specs.Maps.{device_of, event_of, collection_of, is_pair}
 use Rattle.its_types.specs.declared.translation.Device.{Device}
 use Rattle.its_types.specs.declared.translation.Event.{Event}
 use Rattle.plain_machine.specs.MappedPairs.{is_among, AreMapped}
-use Rattle.its_plain.specs.Answer.{left, reply_of}
-use Rattle.its_plain.specs.Parts.{footprint}
-use Rattle.its_plain.specs.Plain.{Plain, Translator, PendState}
-use Rattle.its_plain.specs.declared.call.Call.{Call}
-use Rattle.its_plain.specs.declared.call.Reply.{Reply}
+use Rattle.its_plain.specs.Plain.{Translator, PendState}
 use Rattle.its_plain.specs.Translation.{◌>>=◌, ensure, located}
 use Rattle.its_plain.specs.declared.call.Cause.TheVariants.{Disabled, NoDevice, NoEvent, NoCollection, LpisOff}
 use Rattle.std.proofs.lemmas.Bool.{eqb-true}
@@ -32,7 +28,7 @@ use Rattle.xlate_cache.specs.declared.entry.Entry.{Entry as Translation}
 use Rattle.its_steps.specs.Contents.{Content, Shard, Pend, Held}
 use Rattle.its_steps.specs.Good.{Holds}
 use Rattle.its_player.specs.Held.{same_part, holds, owes_such, is_told, tells, target_tells, meets, lacks, all_out, covers}
-use Rattle.its_steps.specs.MayCall.{Owes, IsAnswered, IsHit, IsWithout, message_of, met}
+use Rattle.its_steps.specs.MayCall.{Owes, IsHit, IsWithout, message_of, met}
 use Rattle.its_steps.specs.MayCommit.{IsOut}
 use Rattle.its_steps.specs.Parts.{Setup, stamp_of}
 use Rattle.its_steps.specs.declared.commit.Commit.{Commit}
@@ -65,18 +61,6 @@ owes_such_decides p test (x ∷ xs) = Decides-like ((same_part x.part p && test 
 pub covers_decides : (held : List Held) (ps : List Part) → Decides (covers held ps) (AllByRecursion (λ p. Holds p held) ps)
 covers_decides held [] = ((λ e. tt), (λ e. refl))
 covers_decides held (p ∷ ps) = Decides-and (holds p held) (covers held ps) (holds_decides p held) (covers_decides held ps)
-
--- a call whose parts are held, and what it leaves where it has the reply
-pub answered_so : {E : Type 0} (u : Plain) (call : Call) (reply : Reply) (held : List Held) → covers held (footprint u call) ≡ true → (r : Result (Option Plain) E)
-    → IfOk r (λ o. MatchOption o (¬ (reply ≡ reply_of u call)) (λ z. (reply ≡ reply_of u call) × (z ≡ left u call reply)))
-    → IfOk r (λ o. MatchOption o (¬ IsAnswered u call reply held) (λ z. IsAnswered u call reply held × (z ≡ left u call reply)))
-answered_so u call reply held e (Ok None) h = λ a. h a.reply_is
-answered_so u call reply held e (Ok (Some z)) h = (record { covers = (covers_decides held (footprint u call)).0 e; reply_is = h.0 }, h.1)
-answered_so u call reply held e (Err x) h = h
-
--- no test both passes and fails
-pub never : {A : Type 0} → false ≡ true → A
-never e = absurd cc
 
 pub all_out_decides : (held : List Held) → Decides (all_out held) (AllByRecursion IsOut held)
 all_out_decides [] = ((λ e. tt), (λ e. refl))

@@ -1,8 +1,7 @@
 //! When a commit's call has its reply, and what it leaves.
 ghost use Rattle.std.specs.Prelude.{◌≡◌, ◌≤◌, ◌⊎◌, IfOk, MatchOption};
 ghost use Rattle.std.specs.Bool.{Decides};
-ghost use Rattle.its_plain.specs.Answer.{left, reply_of, signal_left};
-ghost use Rattle.its_plain.specs.Parts.{footprint};
+ghost use Rattle.its_plain.specs.Answer.{left};
 ghost use Rattle.its_plain.specs.Translation.{translated};
 ghost use Rattle.its_player.specs.Held as spec;
 ghost use Rattle.its_player.specs.Shared.{setup_of};
@@ -91,6 +90,31 @@ impl Shared {
         Some(signal)
     }
 
+    // Whether every part of the call is held, and it has this reply; and if so, what it leaves.
+    fn answered(
+        &self,
+        alloc: Global,
+        state: State,
+        held: &[Held],
+        call: &Call,
+        reply: &Reply,
+    ) -> Result<Option<State>, AllocError>
+        ensures { IfOk result
+            (λ o. MatchOption o (¬ may.IsAnswered state call.now reply.now held.now)
+            (λ u. may.IsAnswered state call.now reply.now held.now
+            × (u ≡ left state call.now reply.now))) }
+    {
+        let parts = state.footprint(alloc, call)?;
+        if !covers(held, &parts) {
+            return Ok(None);
+        }
+        let (after, answer) = state.answer(alloc, call)?;
+        if !answer.equals(reply) {
+            return Ok(None);
+        }
+        Ok(Some(after))
+    }
+
     /// What the call leaves that a pass wants to commit, if it may have the reply.
     pub fn after(
         &self,
@@ -105,10 +129,13 @@ impl Shared {
             IfOk result (λ o. MatchOption o (¬ P)
             (λ z. P × (z ≡ left u commit.now.call commit.now.reply))) }
     {
-        let state = self.assembled(alloc, held)?;
+        let mut state = self.assembled(alloc, held)?;
         match self.hit(held, commit) {
-            Some(signal) => Ok(Some(met(state, signal)?)),
-            None => answered(alloc, state, held, &commit.call, &commit.reply),
+            Some(signal) => {
+                state.meet(signal)?;
+                Ok(Some(state))
+            }
+            None => self.answered(alloc, state, held, &commit.call, &commit.reply),
         }
     }
 
@@ -156,78 +183,6 @@ impl Shared {
             return false;
         }
         goes_to(after, its, dev, ev, target)
-    }
-}
-
-// ---- what a call leaves: who owns the state does nothing else
-
-// A state that a message has met that is told this.
-fn met(mut state: State, signal: Signal) -> Result<State, AllocError>
-    ensures { IfOk result (λ u. u ≡ signal_left state signal) }
-{
-    match state.meet(signal) {
-        Ok(()) => Ok(state),
-        Err(error) => {
-            drop(state);
-            Err(error)
-        }
-    }
-}
-
-// Whether every part of the call is held, and it has this reply; and if so, what it leaves.
-fn answered(
-    alloc: Global,
-    state: State,
-    held: &[Held],
-    call: &Call,
-    reply: &Reply,
-) -> Result<Option<State>, AllocError>
-    ensures { IfOk result
-        (λ o. MatchOption o (¬ may.IsAnswered state call.now reply.now held.now)
-        (λ u. may.IsAnswered state call.now reply.now held.now
-        × (u ≡ left state call.now reply.now))) }
-{
-    match are_held(alloc, &state, held, call) {
-        Ok(are_held) => {
-            if are_held {
-                left_by(alloc, state, call, reply)
-            } else {
-                drop(state);
-                Ok(None)
-            }
-        }
-        Err(error) => {
-            drop(state);
-            Err(error)
-        }
-    }
-}
-
-// Whether every part of the call is held.
-fn are_held(alloc: Global, state: &State, held: &[Held], call: &Call) -> Result<bool, AllocError>
-    ensures { IfOk result (λ b. b ≡ spec.covers held.now (footprint state.now call.now)) }
-{
-    let parts = state.footprint(alloc, call)?;
-    Ok(covers(held, &parts))
-}
-
-// What the call leaves, if it has this reply.
-fn left_by(
-    alloc: Global,
-    state: State,
-    call: &Call,
-    reply: &Reply,
-) -> Result<Option<State>, AllocError>
-    ensures { IfOk result
-        (λ o. MatchOption o (¬ (reply.now ≡ reply_of state call.now))
-        (λ u. (reply.now ≡ reply_of state call.now) × (u ≡ left state call.now reply.now))) }
-{
-    let (after, answer) = state.answer(alloc, call)?;
-    if answer.equals(reply) {
-        Ok(Some(after))
-    } else {
-        drop(after);
-        Ok(None)
     }
 }
 

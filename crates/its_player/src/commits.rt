@@ -1,15 +1,12 @@
 //! Commits of calls.
-ghost use Rattle.std.specs.Prelude.{◌≡◌, ◌≤◌, ◌<◌, ◌⊎◌, ◌++◌, ◌∷◌, [], OnOk, IfOk};
-ghost use Rattle.std.specs.Prelude.{MatchOption, length};
+ghost use Rattle.std.specs.Prelude.{◌≡◌, ◌≤◌, ◌<◌, OnOk, IfOk, MatchOption, length};
 ghost use Rattle.std.specs.Bool.{Decides};
 ghost use Rattle.std.specs.List.{AllByRecursion};
-ghost use Rattle.its_plain.specs.Answer.{left};
 ghost use Rattle.its_player.specs.Shared.{core_of, setup_of, made, AtPass, IsMove, IsPassAt};
 ghost use Rattle.its_steps.specs.Good.{Apart};
-ghost use Rattle.its_steps.specs.MayCall as may;
-ghost use Rattle.its_steps.specs.MayCommit.{IsOut};
+ghost use Rattle.its_steps.specs.MayCall.{MayCall};
 ghost use Rattle.its_steps.specs.Parts.{Stands};
-ghost use Rattle.its_steps.specs.Renewal.{assembled, renewal};
+ghost use Rattle.its_steps.specs.Renewal.{renewal};
 ghost use Rattle.its_steps.specs.Steps.{IsGoodCore};
 ghost use Rattle.its_steps.specs.World as world;
 
@@ -19,7 +16,6 @@ use crate::shared::Shared;
 use its_plain::Entry;
 use its_steps::{Commit, Kind};
 use its_types::Word;
-use plain_machine::State;
 use std::alloc::{AllocError, Global};
 
 impl Shared {
@@ -34,8 +30,8 @@ impl Shared {
         requires stands { AllByRecursion (λ x. Stands (setup_of self.now) x.part) held.now }
         requires apart { Apart held.now }
         ensures { IfOk result
-            (λ o. MatchOption o (¬ may.MayCall (setup_of self.now) commit.now held.now)
-            (λ v. may.MayCall (setup_of self.now) commit.now held.now
+            (λ o. MatchOption o (¬ MayCall (setup_of self.now) commit.now held.now)
+            (λ v. MayCall (setup_of self.now) commit.now held.now
             × (v.items ≡ renewal (setup_of self.now) commit.now held.now))) }
     {
         if commit.expected.place >= self.limits.place_last {
@@ -47,51 +43,16 @@ impl Shared {
         let Some(after) = self.after(alloc, held, commit)? else {
             return Ok(None);
         };
-        let owed = self.owed_after(alloc, held, commit, &after);
-        drop(after);
-        owed
-    }
-
-    // The same, where its call has the reply and leaves a state.
-    fn owed_after(
-        &self,
-        alloc: Global,
-        held: &[Held],
-        commit: &Commit,
-        after: &State,
-    ) -> Result<Option<Vec<Held>>, AllocError>
-        requires shards { 1 ≤ self.now.shards }
-        requires room { commit.now.expected.place < self.now.limits.place_last }
-        requires stands { AllByRecursion (λ x. Stands (setup_of self.now) x.part) held.now }
-        requires apart { Apart held.now }
-        requires out { AllByRecursion IsOut held.now }
-        requires answered { may.IsAnswered (assembled (setup_of self.now) held.now) commit.now.call
-            commit.now.reply held.now ⊎ may.IsHit (setup_of self.now) commit.now held.now }
-        requires leaves { after.now ≡ left (assembled (setup_of self.now) held.now) commit.now.call
-            commit.now.reply }
-        ensures { IfOk result
-            (λ o. MatchOption o (¬ may.MayCall (setup_of self.now) commit.now held.now)
-            (λ v. may.MayCall (setup_of self.now) commit.now held.now
-            × (v.items ≡ renewal (setup_of self.now) commit.now held.now))) }
-    {
-        if !self.may_change(held, commit, after) {
+        if !self.may_change(held, commit, &after) {
             return Ok(None);
         }
         let to = word_after(commit, self.limits.place_last);
-        let owed = self.renewed(alloc, held, commit, to, after)?;
-        match self.may_stamps(alloc, commit, to, held, &owed) {
-            Ok(may_stamp) => {
-                if may_stamp {
-                    return Ok(Some(owed));
-                }
-                drop(owed);
-                Ok(None)
-            }
-            Err(error) => {
-                drop(owed);
-                Err(error)
-            }
+        let owed = self.renewed(alloc, held, commit, to, &after)?;
+        let may_stamps = self.may_stamps(alloc, commit, to, held, &owed)?;
+        if !may_stamps {
+            return Ok(None);
         }
+        Ok(Some(owed))
     }
 
     /// The pass at an index makes a commit, if it may and the word is the one that it expected.
@@ -110,7 +71,6 @@ impl Shared {
             return Ok(());
         };
         if !is_same_word(self.word, commit.expected) {
-            drop(owed);
             self.load(alloc, at)?;
             return Ok(());
         }
@@ -132,30 +92,19 @@ impl Shared {
             core_of self.new ≡ made (core_of self.old) at v commit.now owed.items)) }
         ensures shards { OnOk result (self.new.shards ≡ self.old.shards) }
     {
-        let entry = Entry {
-            pass: self.views[at].number,
+        let number = self.views[at].number;
+        self.history.push(Entry {
+            pass: number,
             call: commit.call,
             reply: commit.reply,
-        };
-        let Ok(seen) = recorded(alloc, &mut self.history, entry) else {
-            drop(owed);
-            return Err(AllocError);
-        };
+        })?;
+        let seen = Vec::from_slice(alloc, &self.history)?;
         let to = word_after(commit, self.limits.place_last);
         self.word = to;
         let view = &mut self.views[at];
         view.commit(alloc, seen, commit, to, owed)?;
         Ok(())
     }
-}
-
-// The history with one more call, as a copy.
-fn recorded(alloc: Global, history: &mut Vec<Entry>, entry: Entry) -> Result<Vec<Entry>, AllocError>
-    ensures grown { OnOk result (history.new.items ≡ history.old.items ++ entry ∷ []) }
-    ensures seen { IfOk result (λ v. v.items ≡ history.new.items) }
-{
-    history.push(entry)?;
-    Ok(Vec::from_slice(alloc, history)?)
 }
 
 // The word that a commit leaves, whose place has one after it.

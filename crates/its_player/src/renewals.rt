@@ -1,5 +1,5 @@
 //! The state that parts held stand for, and what a commit leaves in them.
-ghost use Rattle.std.specs.Prelude.{◌≡◌, ◌≤◌, ◌++◌, OnOk, IfOk};
+ghost use Rattle.std.specs.Prelude.{◌≡◌, ◌≤◌, OnOk, IfOk};
 ghost use Rattle.its_plain.specs.Plain as plain;
 ghost use Rattle.its_player.specs.Contents.{content_of};
 ghost use Rattle.its_player.specs.Shared.{setup_of};
@@ -54,19 +54,6 @@ fn put_in(alloc: Global, state: &mut State, part: Part, content: &Content) -> Re
     Ok(())
 }
 
-// A state but with what a part held owes.
-fn with_part(alloc: Global, mut state: State, held: &Held) -> Result<State, AllocError>
-    ensures { IfOk result (λ u. u ≡ spec.with_part held.now.part held.now.owed state) }
-{
-    match put_in(alloc, &mut state, held.part(), held.owed()) {
-        Ok(()) => Ok(state),
-        Err(error) => {
-            drop(state);
-            Err(error)
-        }
-    }
-}
-
 impl Shared {
     /// The first state, but with what the parts held owe.
     pub fn assembled(&self, alloc: Global, held: &[Held]) -> Result<State, AllocError>
@@ -74,7 +61,11 @@ impl Shared {
     {
         match held {
             [] => Ok(self.start.copy(alloc)?),
-            [first, rest @ ..] => with_part(alloc, self.assembled(alloc, rest)?, first),
+            [first, rest @ ..] => {
+                let mut state = self.assembled(alloc, rest)?;
+                put_in(alloc, &mut state, first.part(), first.owed())?;
+                Ok(state)
+            }
         }
     }
 
@@ -100,35 +91,11 @@ impl Shared {
             v.items ≡ spec.renewed (setup_of self.now) commit.now after.now held.now) }
     {
         let mut owed = Vec::new(alloc);
-        match self.add_renewed(alloc, &mut owed, held, commit, to, after) {
-            Ok(()) => Ok(owed),
-            Err(error) => {
-                drop(owed);
-                Err(error)
-            }
-        }
-    }
-
-    // Adds it to a list, part by part.
-    fn add_renewed(
-        &self,
-        alloc: Global,
-        owed: &mut Vec<Held>,
-        held: &[Held],
-        commit: &Commit,
-        to: Word,
-        after: &State,
-    ) -> Result<(), AllocError>
-        requires shards { 1 ≤ self.now.shards }
-        requires to { to ≡ world.word_after commit.now }
-        ensures { OnOk result (owed.new.items ≡ owed.old.items
-            ++ spec.renewed (setup_of self.now) commit.now after.now held.now) }
-    {
         for x in held {
             let content = self.content_in(alloc, x.part(), x.owed(), commit, to, after)?;
             owed.push(Held::new(x.part(), content, x.is_out()))?;
         }
-        Ok(())
+        Ok(owed)
     }
 
     // What a part owes then.
@@ -153,34 +120,14 @@ impl Shared {
             Part::Mem => Ok(Content::Mem(after.memory().copy(alloc)?)),
             Part::Conf(vcpu) => Ok(Content::Conf(conf_of(alloc, after, usize::from(vcpu.0))?)),
             Part::Pend(vcpu) => Ok(Content::Pend(pend_of(alloc, after, usize::from(vcpu.0))?)),
-            Part::Shard(its, number) => match before {
-                Content::Shard(shard) => {
-                    let changed = self.changed_shard(alloc, shard, its, number, commit, to)?;
-                    Ok(Content::Shard(changed))
+            Part::Shard(its, number) => {
+                let mut content = before.copy(alloc)?;
+                if let Content::Shard(shard) = &mut content {
+                    self.change_shard(shard, its, number, commit, to);
                 }
-                _ => before.copy(alloc),
-            },
+                Ok(content)
+            }
         }
-    }
-
-    // What a shard that has a number has then.
-    fn changed_shard(
-        &self,
-        alloc: Global,
-        shard: &Shard,
-        its: u8,
-        number: u32,
-        commit: &Commit,
-        to: Word,
-    ) -> Result<Shard, AllocError>
-        requires { 1 ≤ self.now.shards }
-        ensures { IfOk result (λ s. s
-            ≡ spec.changed (setup_of self.now) to commit.now.call commit.now.change its number
-            shard.now) }
-    {
-        let mut changed = shard.copy(alloc)?;
-        self.change_shard(&mut changed, its, number, commit, to);
-        Ok(changed)
     }
 
     // Changes a shard that has a number.

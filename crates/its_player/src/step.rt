@@ -48,10 +48,7 @@ impl Shared {
         let Some(at) = find_pass(&self.views, event.pass) else {
             return Ok(self);
         };
-        let Ok(()) = self.moved(alloc, at, &event.kind) else {
-            drop(self);
-            return Err(AllocError);
-        };
+        self.moved(alloc, at, &event.kind)?;
         Ok(self)
     }
 }

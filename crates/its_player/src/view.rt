@@ -15,7 +15,6 @@ use its_steps::{Commit, ShardChange, Standing};
 use its_types::{Listed, Part, Word};
 use std::alloc::{AllocError, Global};
 use std::collections::VecDeque;
-use std::mem::replace;
 
 /// The word before any commit.
 pub const FIRST_WORD: Word = Word { stamp: 0, place: 0 };
@@ -154,24 +153,16 @@ impl View {
           commit = record { base = made.now.expected; change = made.now.change };
         }) }
     {
-        let Ok(()) = self.cache.looked.look_again(alloc, &owed) else {
-            drop(seen);
-            drop(owed);
-            return Err(AllocError);
-        };
+        self.cache.looked.look_again(alloc, &owed)?;
         let entry = Entry {
             pass: self.number,
             call: made.call,
             reply: made.reply,
         };
-        let Ok(()) = self.mine.push((made.expected.place, entry)) else {
-            drop(seen);
-            drop(owed);
-            return Err(AllocError);
-        };
-        drop(replace(&mut self.seen, seen));
+        self.mine.push((made.expected.place, entry))?;
+        self.seen = seen;
         self.last = to;
-        drop(replace(&mut self.held, owed));
+        self.held = owed;
         self.commit = LastCommit {
             base: made.expected,
             change: made.change,
@@ -186,7 +177,7 @@ impl View {
     {
         self.root.ended.push_front((other.number, other.mine))?;
         if self.last.place < other.last.place {
-            self.told = replace(&mut self.seen, other.seen);
+            self.told = std::mem::replace(&mut self.seen, other.seen);
             self.last = other.last;
         } else {
             self.told = other.seen;
@@ -216,14 +207,8 @@ impl View {
         ensures { OnOk result ((s : Setup) →
             known s self.new ≡ world.got (known s self.old) part (content_of content)) }
     {
-        let Ok(()) = self.cache.get(alloc, part, &content, self.last) else {
-            drop(content);
-            return Err(AllocError);
-        };
-        let Ok(()) = self.tries.won.push_front(part) else {
-            drop(content);
-            return Err(AllocError);
-        };
+        self.cache.get(alloc, part, &content, self.last)?;
+        self.tries.won.push_front(part)?;
         self.held.insert(0, Held::new(part, content, false))?;
         Ok(())
     }

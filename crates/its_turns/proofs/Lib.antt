@@ -10,7 +10,6 @@ pub mod Opening
 pub mod Exchanged
 pub mod Joined
 pub mod Steps
-pub mod Coming
 pub mod Going
 pub mod Again
 pub mod OnePart

@@ -1,13 +1,12 @@
 -- What each step of a pass answers.
-use Rattle.std.specs.Prelude.{◌≡◌, ◌≢◌, ◌⊎◌, ◌<◌, List, ◌∷◌}
+use Rattle.std.specs.Prelude.{◌≡◌, ◌≢◌, ◌<◌, List, ◌∷◌}
 use mathlib.Core.Option.{some}
 use Rattle.its_types.specs.declared.machine.Part.{Part}
 use Rattle.its_types.specs.declared.machine.Word.{Word}
 use Rattle.its_steps.specs.World.{View, took, missed, out}
 use Rattle.its_steps.specs.Contents.{Content, Held}
 use Rattle.its_turns.specs.Contents.{content_of, IsFit}
-use Rattle.its_turns.specs.Told.{HasStood, Looks, IsLone, Commits}
-use Rattle.its_steps.specs.declared.commit.Commit.{Commit}
+use Rattle.its_turns.specs.Told.{HasStood, Looks, IsLone}
 use Rattle.its_turns.specs.declared.commits.Raced.{Raced}
 use Rattle.its_turns.specs.declared.turns.Busy.{Busy}
 use Rattle.its_turns.specs.declared.value.Value.{Value}
@@ -49,27 +48,3 @@ pub record IsRaced (v : View) (expected : Word) (r : Raced) (w : View) : Type 0 
   pub later : expected.place < r.found.place
   pub out : ¬ IsLone v
   pub looks : Looks v r.found w
-
--- ---- a commit that is tried again
-
--- the same commit at another word
-abbrev pub at_word : Commit → Word → Commit
-at_word a w = record a { expected = w }
-
--- It comes to this word: the one expected first, or one of the same stamp that another call left, up to which the pass has looked then
-pub record ComesTo (v : View) (first w : Word) (u : View) : Type 0 where
-  pub stamp : w.stamp ≡ first.stamp
-  pub room : w.place < v.setup.limits.place_last
-  pub read : ((u ≡ v) × (w ≡ first)) ⊎ Looks v w u
-
--- the call was made at this word
-pub record CommitsAt (v : View) (a : Commit) (w : Word) (v' : View) : Type 0 where
-  pub mid : View
-  pub comes : ComesTo v a.expected w mid
-  pub commits : Commits mid (at_word a w) v'
-
--- or another call was made first, also at the last word that it came to
-pub record IsRacedAt (v : View) (first : Word) (r : Raced) (v' : View) : Type 0 where
-  pub mid : View
-  pub comes : ComesTo v first r.expected mid
-  pub raced : IsRaced mid r.expected r v'

@@ -8,7 +8,7 @@ ghost use Rattle.its_turns.specs.Machines.{setup, view, IsOf, AreWithin};
 ghost use Rattle.its_turns.specs.Told.{Looks};
 
 use crate::attempts::{Lost, Spent};
-use crate::commits::commit_again;
+use crate::commits::commit;
 use crate::loads::look;
 use crate::machine::{Machine, Pass};
 use its_plain::{Call, Reply};
@@ -34,8 +34,8 @@ pub fn begin(machine: &Machine, pass: &mut Pass) -> Result<Word, Spent>
     }
 }
 
-/// Loads the word, and makes a call that leaves the stamp as it is, by as many exchanges as
-/// `commit_again` makes. Answers the word that it found, whose place is the call's.
+/// Loads the word, and tries once to make a call that leaves the stamp as it is. Answers the word
+/// that it found, whose place is the call's.
 pub fn try_commit<G: Gate>(
     machine: &Machine,
     pass: &mut Pass,
@@ -63,8 +63,8 @@ pub fn try_commit<G: Gate>(
         reply: *reply,
         change,
     };
-    match commit_again(machine, pass, &made) {
-        Ok(word) => {
+    match commit(machine, pass, &made) {
+        Ok(_) => {
             gate.at(pass.number(), Point::AfterCommit);
             Ok(word)
         }

@@ -2,9 +2,8 @@
 //! which its value leaves while a pass works on it. A call takes effect at a compare-and-exchange
 //! of one word.
 //!
-//! `Machine::new` has fourteen clauses, `commit` seven and `commit_again` eight: what a machine
-//! starts with, and what a call leaves, is told field by field, since passes and machine show it
-//! each for itself.
+//! `Machine::new` has fourteen clauses, and `commit` seven: what a machine starts with, and what a
+//! call leaves, is told field by field, since passes and machine show it each for itself.
 #![tactic(auto)]
 
 mod asked;
@@ -26,7 +25,7 @@ mod word;
 
 pub use attempts::{Attempt, Lost, NotMade, Spent};
 pub use calls::{begin, try_commit};
-pub use commits::{Raced, commit, commit_again};
+pub use commits::{Raced, commit};
 pub use ending::close;
 pub use law::{Known, Origin};
 pub use loads::look;

@@ -17,4 +17,3 @@ mod Walking
 mod Unstale
 mod Put
 mod SteppedOn
-mod Grown

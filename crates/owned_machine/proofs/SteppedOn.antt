@@ -1,7 +1,7 @@
 -- What a step answers and leaves that is made on lent memory. The machine on that memory, with a second memory that is zero where it
 -- has one, is sound; so is what its step leaves, and then the machine on its own memory.
 use Rattle.std.proofs.Common.{◌≡◌, ℕ, not, List, map, Option, Some, None, refl, sym, ap, subst, ◌∙◌}
-use Rattle.std.specs.Prelude.{◌||◌, length, slice_get}
+use Rattle.std.specs.Prelude.{◌||◌, length, slice_get, is_some}
 use Rattle.std.specs.Option.{option_map}
 use Rattle.dirty_log.specs.Copies.{IsTracked, untouched}
 use Rattle.dirty_log.specs.declared.tracked.Tracked.{Tracked}

@@ -9,4 +9,3 @@ pub mod Migrations
 pub mod Placed
 pub mod Stale
 pub mod Lent
-pub mod Windows

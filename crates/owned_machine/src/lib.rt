@@ -18,7 +18,6 @@ mod signals;
 mod stale;
 mod steps;
 mod stretches;
-mod windows;
 
 pub use machine::Machine;
 pub use migrations::{moved, resumed};

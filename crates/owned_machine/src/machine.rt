@@ -3,9 +3,8 @@ use crate::calls::answered;
 use crate::migrations::{begin, go_on, moved, precopied};
 use crate::steps::step_on;
 use crate::stretches::{forget_stretch, write_stretch};
-use crate::windows::add_window;
 use gicr_regs::{GicrRegisters, values_come_back, values_of};
-use guest_windows::{Memory, NewError, Outside};
+use guest_windows::{Memory, Outside};
 use its_plain::{Call, Desc, MakeError, Reply, SaveError, StepReply};
 use its_types::{Addr, Intid, Vcpu};
 use owned_parts::Parts;
@@ -36,8 +35,7 @@ impl Model for Machine {
 
 impl Machine {
     ghost use Rattle.std.specs.Prelude.{◌≡◌, ◌<◌, ◌+◌, ◌^◌, true, IfOk, OnOk, OnErr, IfSome};
-    ghost use Rattle.std.specs.Prelude.{IfErr, IsErrOf, is_ok, is_some, false, length, map};
-    ghost use Rattle.std.specs.Prelude.{replicate};
+    ghost use Rattle.std.specs.Prelude.{IfErr, is_ok, is_some, length, map, replicate};
     ghost use Rattle.guest_windows.specs.Windows.{inside, extent};
     ghost use Rattle.gicr_regs.specs.Registers as spec;
     ghost use Rattle.its_plain.specs.Answer as plain;
@@ -48,7 +46,6 @@ impl Machine {
     ghost use Rattle.owned_machine.specs.Pieces.{written_to};
     ghost use Rattle.owned_machine.specs.Lent.{on, left_on};
     ghost use Rattle.owned_machine.specs.Whole.{IsMachine, may_want_memory, step_adds};
-    ghost use Rattle.owned_machine.specs.Windows.{can_have, with_window};
     ghost use Rattle.owned_parts.specs.Owned.{state_of_parts};
 
     /// The machine that a description makes, restored from memory where the description says so, or
@@ -128,30 +125,6 @@ impl Machine {
         ensures where_all { is_ok result ≡ inside self.old.memory address.0 len }
     {
         forget_stretch(&mut self.parts, address, len)
-    }
-
-    /// Adds a window of zero bytes to guest memory, after those that there are, as where a DIMM is
-    /// plugged in: `BadWindows` comes exactly where no memory can have all of them. A second memory
-    /// begins anew, as after a migration, all zeros with every page dirty; only where there is one
-    /// may `NoMemory` be told of a window that can't be.
-    ///
-    /// ```
-    /// match machine.add_window(alloc, Addr(0x1_0000_0000), 0x4000_0000) {
-    ///     Ok(()) => true,
-    ///     Err(NewError::BadWindows) => false,
-    ///     Err(NewError::NoMemory) => return Err(AllocError),
-    /// }
-    /// ```
-    pub fn add_window(&mut self, alloc: Global, base: Addr, len: u64) -> Result<(), NewError>
-        ensures added { OnOk result (self.new ≡ with_window self.old (base.0, len)) }
-        ensures fits { OnOk result (can_have self.old.memory (base.0, len) ≡ true) }
-        ensures bad { IsErrOf result NewError.BadWindows
-            → can_have self.old.memory (base.0, len) ≡ false }
-        ensures short { IsErrOf result NewError.NoMemory → self.old.layout.track ≡ false
-            → can_have self.old.memory (base.0, len) ≡ true }
-        ensures same { OnErr result (self.new ≡ self.old) }
-    {
-        add_window(&mut self.parts, alloc, base, len)
     }
 
     /// The parts that the machine is made of, to be read.

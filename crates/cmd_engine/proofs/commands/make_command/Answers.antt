@@ -1,8 +1,8 @@
 use Rattle.std.proofs.Common.{Some, ap, sym, ◌∙◌, refl}
-use Rattle.its_plain.specs.Plain.{Plain}
 use Rattle.its_plain.specs.declared.call.Call.TheVariants as call
 use Rattle.its_plain.specs.declared.call.CmdReply.{CmdReply}
 use Rattle.its_plain.specs.declared.call.Reply.TheVariants as reply
+use Rattle.its_plain.specs.declared.call.StepReply.{StepReply}
 use Rattle.its_steps.specs.World.{View}
 use Rattle.its_turns.specs.Machines.{setup, view}
 use Rattle.its_turns.specs.declared.value.GuestMemory.{GuestMemory}
@@ -11,12 +11,9 @@ use Rattle.cmd_exec.specs.Executed.{planned_reply}
 use Rattle.cmd_exec.specs.Room.{adds}
 use mathlib.Core.List.{IsPrefix}
 use Rattle.cmd_engine.specs.Cached.{IsAny}
-use Rattle.cmd_engine.specs.Concern.{Concerns}
 use Rattle.cmd_engine.specs.Hands.{Memory, IsOfStep}
-use Rattle.cmd_engine.specs.declared.stepped.Stepped.{Stepped}
 use Rattle.cmd_engine.proofs.Came.{came_spent, came_full, came_no_memory, came_late, came_raced, made_as}
-use Rattle.cmd_engine.proofs.Carrying.{if_err, forbidden_in, wants, sound_in, leaves_so, within_then, may_commit, in_hand_then, concerns_so}
-use Rattle.cmd_engine.proofs.Concerning.{before_last}
+use Rattle.cmd_engine.proofs.Carrying.{if_err, forbidden_in, wants, sound_in, leaves_so, within_then, may_commit, in_hand_then}
 use Rattle.cmd_engine.proofs.Ruled.{allowed_before, raced_keeps}
 use Rattle.cmd_engine.proofs.Untried.{looked_tries, committed_tries, raced_tries}
 use Rattle.cmd_engine.proofs.commands.make_command.Goals as goal
@@ -25,14 +22,14 @@ pub returns-in_default-clause-comes : goal.returns-in_default-clause-comes
 returns-in_default-clause-comes g c v bare goes = let i = c.args.hands.now.its in let w = c.in_default.ensures.word in
     came_spent (IsOfStep i) v (view c.args.pass.now) bare goes (setup c.args.machine.now) c.requires.of.1
     (IsAny c.args.hands.now.cached × IsPrefix (view c.args.pass.now).seen (view c.begin.new.pass).seen) (view c.begin.new.pass) w.0 w.1 (call.Step i)
-    (λ (k : Stepped). reply.Step k.reply) w.2
+    (λ (k : StepReply). reply.Step k) w.2
 
 pub returns-then-is_err-clause-comes : goal.returns-then-is_err-clause-comes
 returns-then-is_err-clause-comes g c v bare goes = let m = c.args.machine.now in let q = c.requires in let i = c.args.hands.now.its in
     came_no_memory (IsOfStep i) v (view c.args.pass.now) bare goes (setup m) q.of.1
     (IsAny c.args.hands.now.cached × IsPrefix (view c.args.pass.now).seen (view c.begin.new.pass).seen)
     (view c.begin.new.pass) c.in-Ok.word c.in-Ok.ensures.word.0 (call.Step i)
-    (λ (k : Stepped). reply.Step k.reply)
+    (λ (k : StepReply). reply.Step k)
     (wants (setup m) (has_stamps m) (view c.args.pass.now) c.args.hands.now q.hands c.in-Some.memory c.in-Some.is c.args.command.now q.meets q.ends q.needed
     (view c.begin.new.pass) c.in-Ok.word q.of.1 c.in-Ok.ensures.word.0 c.desc.result.now.shape c.desc.ensures.shape _
     (ap (λ t. adds t.maps.maps c.plan-planned.result) (sym c.deref_mut-translator.ensures.value)
@@ -43,7 +40,7 @@ pub returns-in_default-mark_of-clause-comes : goal.returns-in_default-mark_of-cl
 returns-in_default-mark_of-clause-comes g c v bare goes = let i = c.args.hands.now.its in
     came_late (IsOfStep i) v (view c.args.pass.now) bare goes (setup c.args.machine.now) c.requires.of.1
     (IsAny c.args.hands.now.cached × IsPrefix (view c.args.pass.now).seen (view c.begin.new.pass).seen) (view c.begin.new.pass) c.in-Ok.word
-    c.in-Ok.ensures.word.0 (call.Step i) (λ (k : Stepped). reply.Step k.reply) c.in_default-mark_of.ensures.0
+    c.in-Ok.ensures.word.0 (call.Step i) (λ (k : StepReply). reply.Step k) c.in_default-mark_of.ensures.0
     (c.in_default-mark_of.ensures.1, c.in-Ok.ensures.word.0.longer)
 
 pub commit_marked-requires-clause-after : goal.commit_marked-requires-clause-after
@@ -66,7 +63,7 @@ returns-in-Err-clause-comes g c v bare goes = let i = c.args.hands.now.its in
     came_raced (IsOfStep i) v (view c.args.pass.now) bare goes (setup c.args.machine.now) c.requires.of.1
     (IsAny c.args.hands.now.cached × IsPrefix (view c.args.pass.now).seen (view c.commit_marked.new.pass).seen) (view c.begin.new.pass) c.in-Ok.word
     c.in-Ok.ensures.word.0 (view c.commit_marked.new.pass) c.in-Ok.ensures.word.1 (call.Step i)
-    (λ (k : Stepped). reply.Step k.reply) c.in-Err.missed c.in-Err.ensures.result
+    (λ (k : StepReply). reply.Step k) c.in-Err.missed c.in-Err.ensures.result
 
 pub apply-requires-clause-parts : goal.apply-requires-clause-parts
 apply-requires-clause-parts g c = let m = c.args.machine.now in let q = c.requires in
@@ -125,7 +122,7 @@ pub returns-then-is_forbidden-clause-comes : goal.returns-then-is_forbidden-clau
 returns-then-is_forbidden-clause-comes g c v bare goes = let i = c.args.hands.now.its in
     came_full (IsOfStep i) v (view c.args.pass.now) bare goes (setup c.args.machine.now) c.requires.of.1
     (IsAny c.args.hands.now.cached × IsPrefix (view c.args.pass.now).seen (view c.begin.new.pass).seen) (view c.begin.new.pass) c.in-Ok.word
-    c.in-Ok.ensures.word.0 (call.Step i) (λ (k : Stepped). reply.Step k.reply) tt
+    c.in-Ok.ensures.word.0 (call.Step i) (λ (k : StepReply). reply.Step k) tt
 
 pub returns-then-is_forbidden-clause-tries : goal.returns-then-is_forbidden-clause-tries
 returns-then-is_forbidden-clause-tries g c = looked_tries (view c.args.pass.now) (view c.begin.new.pass) c.in-Ok.word c.in-Ok.ensures.word.0
@@ -140,7 +137,7 @@ returns-then-is_forbidden-clause-rule g c = let m = c.args.machine.now in let q 
 
 pub returns-in-Err-clause-rule : goal.returns-in-Err-clause-rule
 returns-in-Err-clause-rule g c =
-    raced_keeps Stepped (g.L.MapRule.forbidden c.args.rule.now) (setup c.args.machine.now).start c.args.hands.now.its (view c.begin.new.pass) c.in-Ok.word
+    raced_keeps StepReply (g.L.MapRule.forbidden c.args.rule.now) (setup c.args.machine.now).start c.args.hands.now.its (view c.begin.new.pass) c.in-Ok.word
     c.in-Err.missed (view c.commit_marked.new.pass) c.in-Err.ensures.result
 
 pub returns-clause-rule : goal.returns-clause-rule
@@ -152,19 +149,4 @@ returns-clause-rule g c = let m = c.args.machine.now in let q = c.requires in
     (planned_reply c.plan-planned.result)
     (rw (c.deref_mut-translator.ensures.value, c.deref_mut.ensures.value) at c.plan-planned.ensures.reply) (g.L.MapRule.forbidden c.args.rule.now)
     ∙ (sym (rw (c.reply-said.ensures, c.deref_mut-translator.ensures.value) at c.is_forbidden.ensures) ∙ c.if-is_forbidden.false))
-    (ap (λ (k : View). k.seen) c.in-Ok-commit_marked.ensures.result.1.view)
-
--- ---- whom it concerned
-
-pub concerned_by-concerned-requires : goal.concerned_by-concerned-requires
-concerned_by-concerned-requires g c = c.requires.needed.one_kind
-
-pub returns-clause-tells : goal.returns-clause-tells
-returns-clause-tells g c = let m = c.args.machine.now in let q = c.requires in let i = c.args.hands.now.its in let set = c.concerned_by-concerned.result in
-    before_last (λ (u : Plain). Concerns u i set) (setup m).start (view c.begin.new.pass).seen (view c.commit_marked.new.pass).seen _
-    (concerns_so (setup m) (has_stamps m) (view c.args.pass.now) c.args.hands.now q.hands c.in-Some.memory c.in-Some.is c.args.command.now q.meets q.ends
-    q.needed (view c.begin.new.pass) c.in-Ok.word q.of.1 c.in-Ok.ensures.word.0 c.desc.result.now.shape c.desc.ensures.shape
-    (planned_reply c.plan-planned.result)
-    (rw (c.deref_mut-translator.ensures.value, c.deref_mut.ensures.value) at c.plan-planned.ensures.reply) c.in-Ok.ensures.word.1 set
-    (rw (c.reply-said.ensures) at c.concerned_by-concerned.ensures))
     (ap (λ (k : View). k.seen) c.in-Ok-commit_marked.ensures.result.1.view)

@@ -1,13 +1,13 @@
 use Rattle.std.proofs.Common.{Some, ap, sym, ◌∙◌, subst, ℕ}
 use Rattle.its_plain.specs.declared.call.Call.TheVariants as call
 use Rattle.its_plain.specs.declared.call.Reply.TheVariants as reply
+use Rattle.its_plain.specs.declared.call.StepReply.{StepReply}
 use Rattle.its_turns.specs.Machines.{setup, view}
 use Rattle.its_turns.specs.Told.{released}
 use Rattle.held_parts.specs.Taking.{Goes}
 use Rattle.cmd_engine.specs.Hands.{IsOfStep}
 use Rattle.cmd_engine.specs.Telling.{Comes}
 use Rattle.cmd_engine.specs.declared.cached.Cached.TheVariants as cached
-use Rattle.cmd_engine.specs.declared.stepped.Stepped.{Stepped}
 use Rattle.cmd_engine.proofs.Came.{came_home}
 use Rattle.cmd_engine.proofs.Getting.{base_of, own_in_hand}
 use Rattle.cmd_engine.proofs.steps.step_held.Goals as goal
@@ -28,7 +28,7 @@ step_with-made-requires-clause-stood g c = let e = c.new-hands.ensures in rw (e.
 pub returns-clause-comes : goal.returns-clause-comes
 returns-clause-comes g c v bare goes =
     let i = c.args.its in let y = view c.args.pass.now in let z = view c.step_with-made.new.pass in let own = c.new-hands.ensures.its in
-    came_home (IsOfStep i) v z (view c.put.new.pass) (call.Step i) (λ (k : Stepped). reply.Step k.reply) c.step_with-made.result _
-    (subst (λ (n : ℕ). Comes (IsOfStep n) v (call.Step n) (λ (k : Stepped). reply.Step k.reply) z c.step_with-made.result) own
+    came_home (IsOfStep i) v z (view c.put.new.pass) (call.Step i) (λ (k : StepReply). reply.Step k) c.step_with-made.result _
+    (subst (λ (n : ℕ). Comes (IsOfStep n) v (call.Step n) (λ (k : StepReply). reply.Step k) z c.step_with-made.result) own
     (c.step_with-made.ensures.comes v bare (subst (λ (n : ℕ). Goes (IsOfStep n) v y) (sym own) goes)))
     (c.put.ensures.view ∙ ap released c.put_taken.ensures.home)

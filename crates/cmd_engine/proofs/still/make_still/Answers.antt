@@ -1,19 +1,15 @@
 use Rattle.std.proofs.Common.{ap, ◌∙◌}
-use Rattle.its_plain.specs.Plain.{Plain}
 use Rattle.its_plain.specs.declared.call.Call.TheVariants as call
 use Rattle.its_plain.specs.declared.call.Reply.TheVariants as reply
+use Rattle.its_plain.specs.declared.call.StepReply.{StepReply}
 use Rattle.its_steps.specs.World.{View}
 use Rattle.its_turns.specs.Machines.{setup, view}
 use Rattle.its_turns.proofs.Stamps.{has_stamps}
-use Rattle.owned_parts.specs.declared.redist_set.RedistSet.TheVariants.{Nothing}
-use Rattle.cmd_engine.specs.Concern.{Concerns}
 use Rattle.cmd_engine.specs.Hands.{IsOfStep}
 use Rattle.cmd_engine.specs.Telling.{ReadLow}
-use Rattle.cmd_engine.specs.declared.stepped.Stepped.{Stepped}
 use Rattle.cmd_engine.proofs.Came.{came_spent, came_raced, made_as}
 use Rattle.cmd_engine.proofs.Ruled.{allowed_before, raced_keeps}
-use Rattle.cmd_engine.proofs.Concerning.{before_last}
-use Rattle.cmd_engine.proofs.Unmet.{there, still_keeps, still_concerns, still_leaves, still_within, still_may, still_in_hand_then}
+use Rattle.cmd_engine.proofs.Unmet.{there, still_keeps, still_leaves, still_within, still_may, still_in_hand_then}
 use Rattle.cmd_engine.proofs.Untried.{looked_tries, committed_tries, raced_tries}
 use Rattle.cmd_engine.proofs.still.make_still.Goals as goal
 
@@ -22,7 +18,7 @@ returns-in_default-clause-comes g c v bare goes = let i = c.args.hands.now.its i
     came_spent (IsOfStep i) v (view c.args.pass.now) bare goes (setup c.args.machine.now) c.requires.of.1 (ReadLow v c.args.hands.now.its
     (view c.begin.new.pass))
     (view c.begin.new.pass) w.0 w.1 (call.Step i)
-    (λ (k : Stepped). reply.Step k.reply) w.2
+    (λ (k : StepReply). reply.Step k) w.2
 
 pub commit_marked-requires-clause-after : goal.commit_marked-requires-clause-after
 commit_marked-requires-clause-after g c = let m = c.args.machine.now in let q = c.requires in let b = there c.args.hands.now.memory q.base.memory in
@@ -42,7 +38,7 @@ returns-in-Err-clause-comes g c v bare goes = let i = c.args.hands.now.its in
     (view c.commit_marked.new.pass))
     (view c.begin.new.pass) c.in-Ok.word
     c.in-Ok.ensures.word.0 (view c.commit_marked.new.pass) c.in-Ok.ensures.word.1 (call.Step i)
-    (λ (k : Stepped). reply.Step k.reply) c.in-Err.missed c.in-Err.ensures.result
+    (λ (k : StepReply). reply.Step k) c.in-Err.missed c.in-Err.ensures.result
 
 pub returns-clause-hands : goal.returns-clause-hands
 returns-clause-hands g c = let m = c.args.machine.now in let q = c.requires in let b = there c.args.hands.now.memory q.base.memory in
@@ -74,7 +70,7 @@ returns-clause-tries g c = committed_tries (view c.begin.new.pass) (view c.commi
 
 pub returns-in-Err-clause-rule : goal.returns-in-Err-clause-rule
 returns-in-Err-clause-rule g c r =
-    raced_keeps Stepped r (setup c.args.machine.now).start c.args.hands.now.its (view c.begin.new.pass) c.in-Ok.word c.in-Err.missed
+    raced_keeps StepReply r (setup c.args.machine.now).start c.args.hands.now.its (view c.begin.new.pass) c.in-Ok.word c.in-Err.missed
     (view c.commit_marked.new.pass) c.in-Err.ensures.result
 
 pub returns-clause-rule : goal.returns-clause-rule
@@ -82,12 +78,4 @@ returns-clause-rule g c r = let m = c.args.machine.now in let q = c.requires in 
     allowed_before r (setup m).start c.args.hands.now.its (view c.begin.new.pass).seen (view c.commit_marked.new.pass).seen _
     (still_keeps (setup m) (has_stamps m) (view c.args.pass.now) c.args.hands.now q.hands b.0 b.1 c.args.said q.none (view c.begin.new.pass) c.in-Ok.word
     q.of.1 c.in-Ok.ensures.word.0 c.in-Ok.ensures.word.1 r)
-    (ap (λ (k : View). k.seen) c.in-Ok-commit_marked.ensures.result.1.view)
-
-pub returns-clause-tells : goal.returns-clause-tells
-returns-clause-tells g c = let m = c.args.machine.now in let q = c.requires in let i = c.args.hands.now.its in
-    let b = there c.args.hands.now.memory q.base.memory in
-    before_last (λ (u : Plain). Concerns u i Nothing) (setup m).start (view c.begin.new.pass).seen (view c.commit_marked.new.pass).seen _
-    (still_concerns (setup m) (has_stamps m) (view c.args.pass.now) c.args.hands.now q.hands b.0 b.1 c.args.said q.none (view c.begin.new.pass) c.in-Ok.word
-    q.of.1 c.in-Ok.ensures.word.0 c.in-Ok.ensures.word.1)
     (ap (λ (k : View). k.seen) c.in-Ok-commit_marked.ensures.result.1.view)

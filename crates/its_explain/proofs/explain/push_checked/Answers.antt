@@ -8,7 +8,7 @@ use Rattle.its_explain.proofs.explain.push_checked.Goals as goal
 abbrev Fits : Result (Script × List (List ℕ)) ScriptFault → Type 0
 Fits r = IfOk r (λ p. IsWithinLimits p.0)
 
-pub push_check-told-requires : goal.push_check-told-requires
-push_check-told-requires c =
+pub push_check-requires : goal.push_check-requires
+push_check-requires c =
     let fits : IsWithinLimits c.in-Ok.read.script = subst Fits c.in-Ok.ensures (checked_scripts_fit c.args.input.now) in
     fits.description

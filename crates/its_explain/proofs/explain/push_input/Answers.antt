@@ -9,5 +9,5 @@ use Rattle.its_explain.proofs.explain.push_input.Goals as goal
 fits : (input : List ℕ) (script : Script) → script_of input ≡ Ok script → IsWithinLimits script
 fits input script read = subst (λ (r : Result Script ScriptFault). IfOk r IsWithinLimits) read (scripts_fit input)
 
-pub push_run-told-requires : goal.push_run-told-requires
-push_run-told-requires c = (fits c.args.input.now c.in-Ok.script c.in-Ok.ensures).description
+pub push_run-requires : goal.push_run-requires
+push_run-requires c = (fits c.args.input.now c.in-Ok.script c.in-Ok.ensures).description

@@ -1,12 +1,17 @@
-use Rattle.std.proofs.Common.{◌≡◌, MatchResult, ap, subst}
-use Rattle.its_steps.specs.declared.commit.Commit.{Commit}
-use Rattle.its_turns.specs.Machines.{view}
-use Rattle.its_turns.specs.Steps.{IsRaced, at_word}
-use Rattle.its_turns.specs.Told.{Commits}
+use Rattle.std.proofs.Common.{subst, sym, arith}
+use Rattle.its_steps.specs.World.{word_after}
+use Rattle.its_turns.specs.Machines.{setup}
+use Rattle.its_turns.specs.Words.{IsRoomFor}
+use Rattle.its_turns.specs.declared.word.Packing.{Packing}
+use Rattle.its_turns.proofs.Stamps.{has_stamps, has_room, room_of, packed_by}
 use Rattle.its_turns.proofs.commits.commit.Goals as goal
 
-pub returns-clause-result : goal.returns-clause-result
-returns-clause-result c =
-    let v = view c.args.pass.now in let w = view c.exchange_at.new.pass in
-    subst (λ (a : Commit). MatchResult c.exchange_at.result (λ place. (place ≡ a.expected.place) × Commits v a w) (λ raced. IsRaced v a.expected raced w))
-    (ap (λ (a : Commit). at_word a c.args.commit.now.expected) c.of.ensures) c.exchange_at.ensures.result
+pub pack-old-requires : goal.pack-old-requires
+pack-old-requires c = let m = c.args.machine.now in let w = c.args.commit.now.expected in
+    subst (λ (p : Packing). IsRoomFor p w) (sym (packed_by m))
+    (has_room (setup m) w (has_stamps m) (room_of m) c.requires.low (omega (arith, c.requires.may.room)))
+
+pub pack-new-requires : goal.pack-new-requires
+pack-new-requires c = let m = c.args.machine.now in let w = word_after c.args.commit.now in
+    subst (λ (p : Packing). IsRoomFor p w) (sym (packed_by m))
+    (has_room (setup m) w (has_stamps m) (room_of m) c.requires.next (omega (arith, c.requires.may.room)))

@@ -1,5 +1,4 @@
-use Rattle.its_turns.specs.Steps.{at_word}
 use Rattle.its_turns.proofs.commits.commit.Given as goal
 
-abbrev pub ghosts-exchange_at : goal.ghosts-exchange_at
-ghosts-exchange_at a = record { what = at_word a.made.now.value a.expected }
+abbrev pub ghosts-exchange : goal.ghosts-exchange
+ghosts-exchange a = record { what = a.commit.now }

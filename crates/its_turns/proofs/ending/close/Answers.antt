@@ -97,11 +97,6 @@ take_conf-conf-requires-clause-there c = let m = c.args.machine in let p = c.arg
     conf_there s u l.vcpu (m.first_conf + c.from-in-loop-vcpu.result) (slots_items l.closed.slots) z.0 (ap (λ (n : ℕ). get_elem? (slots_items l.closed.slots) (8 * n)) (sym same) ∙ z.1)
     (is_conf s (view p).last u v z.0 z.2.content z.2.content_is z.2.fit z.2.right)
 
-pub take_conf-conf-requires-clause-front : goal.take_conf-conf-requires-clause-front
-take_conf-conf-requires-clause-front c = let m = c.args.machine in let l = c.loop-vcpu in
-    let same : 8 * (m.first_conf + l.vcpu) ≡ 8 * (m.first_conf + c.from-in-loop-vcpu.result) = omega (arith, c.from-in-loop-vcpu.ensures) in
-    subst (λ (n : ℕ). AreTaken n (slots_len l.closed.slots) (slots_filled l.closed.slots)) same l.invariant.0
-
 pub loop-vcpu-preserved : goal.loop-vcpu-preserved
 loop-vcpu-preserved c = let m = c.args.machine in let p = c.args.root in let s = setup m in let l = c.loop-vcpu in let u = after s.start (view p).seen in
     let vcpus : m.desc.shape.vcpus ≡ vcpu_count s = ap (λ (l : Layout). l.shape.vcpus) m.built.1 ∙ ap (λ (l : Layout). l.shape.vcpus) m.built.0 in

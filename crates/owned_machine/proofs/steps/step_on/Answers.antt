@@ -5,9 +5,9 @@ use Rattle.its_plain.specs.Answer.{step_reply}
 use Rattle.owned_parts.specs.Owned.{state_of_parts, translator_of}
 use Rattle.owned_machine.specs.Lent.{on}
 use Rattle.owned_machine.specs.Whole.{step_adds}
-use Rattle.owned_machine.proofs.Lists.{first_there, second_there}
+use Rattle.owned_machine.proofs.Lists.{first_there, second_there, no_second, no_third}
 use Rattle.owned_machine.proofs.Stepped.{holds_all}
-use Rattle.owned_machine.proofs.SteppedOn.{parts_lent, parts_on, sound_parts, first_on, second_on}
+use Rattle.owned_machine.proofs.SteppedOn.{parts_lent, parts_on, sound_parts, first_on, second_on, none_on}
 use Rattle.owned_machine.proofs.steps.step_on.Goals as goal
 
 all_ok : {A E : Type 0} (P Q S R : Type 0) (r : Result A E) → (P → Q → S → R) → OnOk r P → OnOk r Q → OnOk r S → IfOk r (λ _. R)

@@ -12,6 +12,6 @@ returns-clause-makes c = λ v at p.
     let x : Known = c.index_mut-view.result.now in
     let same : c.index.result.now ≡ x = same_read w.views.items c.args.at c.index.result.now x c.requires.at c.index.ensures c.index_mut-view.ensures.value in
     makes w c.args.at x v c.requires.at c.index_mut-view.ensures.value at p c.args.commit.now c.word_after-to.result c.args.owed.items c.commit.new.self
-    c.recorded.new.history.items c.in-Ok.seen.items
-    _ c.word_after-to.ensures (c.in-Ok.ensures.grown ∙ ap (λ (u : Known). w.history.items ++ entry u.number c.args.commit.now.call c.args.commit.now.reply
-    ∷ []) same) c.in-Ok.ensures.seen (c.in_ok-commit.ensures (setup_of w)) refl
+    c.push.new.self.items c.in_ok-seen.seen.items
+    _ c.word_after-to.ensures (c.in_ok-push.ensures.items ∙ ap (λ (u : Known). w.history.items ++ entry u.number c.args.commit.now.call c.args.commit.now.reply
+    ∷ []) same) (c.in_ok-seen.ensures.items ∙ c.deref.ensures.value) (c.in_ok-commit.ensures (setup_of w)) refl

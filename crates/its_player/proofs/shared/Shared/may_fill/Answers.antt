@@ -5,12 +5,12 @@ use Rattle.its_plain.specs.Translation.{translated}
 use Rattle.its_steps.specs.Good.{Holds}
 use Rattle.its_steps.specs.Renewal.{shard_of}
 use Rattle.its_player.specs.Shared.{setup_of}
-use Rattle.its_player.proofs.MayTests.{holds_sure, holds_not, never}
+use Rattle.its_player.proofs.MayTests.{holds_sure, holds_not}
 use Rattle.its_player.proofs.shared.Shared.may_fill.Goals as goal
 
 pub returns-then-not-holds : goal.returns-then-not-holds
 returns-then-not-holds c = (
-  (λ e. never e),
+  (λ e. absurd cc),
   (λ f. absurd (holds_not (part.Maps c.its_of-its.result) c.args.held.now (sym c.holds.ensures ∙ c.if-not-holds.true)
       (subst (λ (n : ℕ). Holds (part.Maps n) c.args.held.now) (sym c.its_of-its.ensures) f.maps))),
 )
@@ -19,14 +19,14 @@ pub returns-then-not-holds-2 : goal.returns-then-not-holds-2
 returns-then-not-holds-2 c =
     let same : part.Shard c.its_of-its.result c.shard_of.result ≡ shard_of (setup_of c.args.self.now) c.args.call.now c.args.dev c.args.ev =
     (λ d. part.Shard (c.its_of-its.ensures d) (c.shard_of.ensures d)) in (
-      (λ e. never e),
+      (λ e. absurd cc),
       (λ f. absurd (holds_not (part.Shard c.its_of-its.result c.shard_of.result) c.args.held.now
           (sym c.holds-2.ensures ∙ c.if-not-holds-2.true) (subst (λ (p : Part). Holds p c.args.held.now) (sym same) f.shard))),
     )
 
 pub returns-then-not-holds-3 : goal.returns-then-not-holds-3
 returns-then-not-holds-3 c =
-    ((λ e. never e), (λ f. absurd (holds_not (part.Pend c.args.target.vcpu) c.args.held.now (sym c.holds-3.ensures ∙ c.if-not-holds-3.true) f.pend)))
+    ((λ e. absurd cc), (λ f. absurd (holds_not (part.Pend c.args.target.vcpu) c.args.held.now (sym c.holds-3.ensures ∙ c.if-not-holds-3.true) f.pend)))
 
 pub returns : goal.returns
 returns c =

@@ -16,4 +16,4 @@ pub returns-clause-steps : goal.returns-clause-steps
 returns-clause-steps c =
     let found : position (is_pass c.args.event.now.pass) c.args.self.views.items ≡ Some c.in-Some.at = ap (position (is_pass c.args.event.now.pass))
     (sym c.deref.ensures.value) ∙ (sym c.find_pass.ensures ∙ c.in-Some.is) in
-    stepped_at c.args.self c.requires.good c.args.event.now c.in-Some.at (core_of c.moved.new.self) found c.in-Ok.ensures.moves
+    stepped_at c.args.self c.requires.good c.args.event.now c.in-Some.at (core_of c.moved.new.self) found c.in_ok-moved.ensures.moves
