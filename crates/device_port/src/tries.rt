@@ -26,8 +26,9 @@ use std::alloc::AllocError;
 
 /// Writes 1 to 64 bytes at an address as the requester of this number, and waits for no turn: a
 /// message tries those that `signal_once_at` tries, a write of memory that of memory. Where another
-/// pass has one of them, or another call is made first, nothing was done. A write of memory holds
-/// the pages that it may need before it is made; where there is no memory for them it isn't made.
+/// pass has one of them, or other calls are made first each time, nothing was done. A write of
+/// memory holds the pages that it may need before it is made; where there is no memory for them it
+/// isn't made.
 ///
 /// ```
 /// let bytes = Bytes64::new(&[3, 0, 0, 0]);

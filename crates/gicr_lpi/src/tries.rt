@@ -17,7 +17,7 @@ use std::alloc::AllocError;
 
 /// Writes `size` bytes, 4 or 8, at an offset of a virtual processor's LPI registers, as
 /// `write_gicr` does, and waits for no turn. Where another pass has one that the write needs, or
-/// another call is made first, nothing was done, and where there is no memory neither.
+/// other calls are made first each time, nothing was done, and where there is no memory neither.
 ///
 /// ```
 /// // GICR_CTLR, bit 0: EnableLPIs.
