@@ -311,6 +311,37 @@ struct its_collection_out {
     uint32_t vcpu; /* that it goes to */
 };
 
+/* How many signals went where. A count stays at 2^64 - 1. */
+struct its_signal_counts {
+    uint64_t delivered; /* of cause ITS_CAUSE_DELIVERED; the others of theirs */
+    uint64_t disabled;
+    uint64_t no_device;
+    uint64_t no_event;
+    uint64_t no_collection;
+    uint64_t lpis_off;
+};
+
+/* How many commands were refused, of each enum its_reason. A count stays at 2^64 - 1. */
+struct its_refused_counts {
+    uint64_t unknown_command;
+    uint64_t device_range;
+    uint64_t size_range;
+    uint64_t target_range;
+    uint64_t collection_range;
+    uint64_t no_device;
+    uint64_t event_range;
+    uint64_t intid_range;
+    uint64_t no_event;
+    uint64_t no_collection;
+    uint64_t lpis_off;
+};
+
+/* What is counted of the calls of a machine, or of a pass, from its making on. */
+struct its_counters {
+    struct its_signal_counts signals; /* its_signal and its_dma of a message */
+    struct its_refused_counts refused; /* its_step and its_step_with */
+};
+
 /*
  * The word that a number of a list has (enum its_list): `buffer` gets its beginning, as many bytes as
  * it takes, with no zero at the end, and `count` how long the word is, at most 24. ITS_RANGE where
@@ -516,6 +547,12 @@ uint32_t its_limits(struct its_handle *handle, uint64_t events, uint64_t devices
 uint32_t its_routes_changed(struct its_handle *handle, uint64_t *count);
 
 /*
+ * How often signals went where and commands were refused for which reason, counted from 0 at its_new. Each
+ * call that answers ITS_DONE raises what it told by one, and any other none. ITS_HANDLE.
+ */
+uint32_t its_counters(struct its_handle *handle, struct its_counters *out);
+
+/*
  * Writes the tables to guest memory: devices, events, collections and pending LPIs, in the format of
  * KVM's ITS (ABI revision 0). ITS_NO_MEMORY, ITS_FAULT with `fault`, ITS_FULL where memory_limit would be
  * passed, as of its_write_memory, ITS_HANDLE.
@@ -609,6 +646,19 @@ uint32_t its_pass_free(struct its_pass *pass);
  */
 uint32_t its_pass_limits(struct its_pass *pass, uint64_t events, uint64_t devices, uint64_t memory);
 
+/*
+ * As its_routes_changed, of the steps and writes of registers that this pass made, counted from 0 where it was
+ * made. A monitor adds up the numbers of the passes that make them: while the sum stays, so do the maps. It
+ * takes no part, so it is never busy. ITS_HANDLE.
+ */
+uint32_t its_pass_routes_changed(struct its_pass *pass, uint64_t *count);
+
+/*
+ * As its_counters, of the signals, writes by address and steps of this pass, counted from 0 where it was made. It
+ * takes no part, so it is never busy. ITS_HANDLE.
+ */
+uint32_t its_pass_counters(struct its_pass *pass, struct its_counters *out);
+
 /* A device's message. ITS_BUSY, ITS_SPENT, ITS_HANDLE, as each call of a pass that follows. */
 uint32_t its_pass_signal(struct its_pass *pass, uint32_t device, uint32_t event, uint64_t *place,
                          struct its_signal_out *out);
@@ -641,8 +691,8 @@ uint32_t its_pass_write_lpi_register(struct its_pass *pass, uint32_t vcpu, uint3
 /*
  * The translator takes the next command of its queue. ITS_NO_MEMORY only of a command that adds a device,
  * an event or a collection; ITS_FULL only of one that adds a device or an event, where as many are mapped as
- * the limits say: the command stays in the queue. All bits of `concerned` are set where a command ran, also those of processors
- * that it didn't concern or that there aren't, and none where no command ran or it was refused.
+ * the limits say: the command stays in the queue. `concerned` is told as of its_step, of the state in which the
+ * step was made.
  */
 uint32_t its_pass_step(struct its_pass *pass, uint64_t *place, struct its_step_out *out);
 
@@ -662,7 +712,8 @@ uint32_t its_pass_read_memory(struct its_pass *pass, uint64_t address, uint8_t *
 
 /*
  * Writes the tables to guest memory, as its_save does. Where the state can't be saved the call is made
- * and answers ITS_FAULT, with its place and `fault`. ITS_NO_MEMORY.
+ * and answers ITS_FAULT, with its place and `fault`. ITS_NO_MEMORY; ITS_FULL where the pass's limit of memory
+ * would be passed, as of its_save: no call was made then.
  */
 uint32_t its_pass_save(struct its_pass *pass, uint64_t *place, struct its_save_fault_out *fault);
 

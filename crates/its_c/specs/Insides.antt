@@ -5,7 +5,7 @@ use Rattle.its_c.specs.Keeping.{Held}
 use Rattle.its_c.specs.declared.kept.Kept.TheInside.{Inside}
 
 abbrev pub held_of : Inside → Held
-held_of k = record { machine = k.machine; desc = k.desc; limits = k.limits; routes = k.routes }
+held_of k = record { machine = k.machine; desc = k.desc; limits = k.limits; routes = k.routes; counters = k.counters }
 
 pub record IsKept (k : Inside) : Type 0 where
   pub translators : length k.desc.translators ≤ 2

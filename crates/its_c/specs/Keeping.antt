@@ -4,8 +4,11 @@ use Rattle.its_plain.specs.Plain.{Plain}
 use Rattle.its_plain.specs.declared.call.Call.{Call}
 use Rattle.its_plain.specs.declared.call.Call.TheVariants as call
 use Rattle.its_plain.specs.declared.desc.Desc.{Desc}
+use Rattle.its_plain.specs.declared.call.Reply.{Reply}
 use Rattle.its_numbers.specs.Codes as codes
+use Rattle.its_numbers.specs.Counters.{count_reply}
 use Rattle.its_numbers.specs.Limits.{no_limit}
+use Rattle.its_numbers.specs.declared.counters.Counters.{Counters}
 use Rattle.its_numbers.specs.declared.limits.GuestLimits.{GuestLimits}
 
 pub record Held : Type 0 where
@@ -16,9 +19,15 @@ pub record Held : Type 0 where
   pub limits : GuestLimits
   -- how often a translation may have ended
   pub routes : ℕ
+  -- how often signals went where, and commands were refused
+  pub counters : Counters
 
 abbrev pub with_machine : Held → Plain → Held
 with_machine h u = record h { machine = u }
+
+-- so once a call was answered so
+abbrev pub answered_with : Held → Plain → Reply → Held
+answered_with h u reply = record h { machine = u; counters = count_reply reply h.counters }
 
 -- what is kept of a description that a machine was made from
 abbrev pub kept_of : Desc → Desc

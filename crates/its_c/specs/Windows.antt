@@ -11,6 +11,7 @@ use Rattle.its_plain.specs.declared.make.MakeError.{MakeError}
 use Rattle.its_plain.specs.declared.make.MakeError.TheVariants as errors
 use Rattle.its_types.specs.declared.ids.Addr.{Addr}
 use Rattle.owned_machine.specs.Windows.{can_have, with_window}
+use Rattle.its_numbers.specs.declared.counters.Counters.{Counters}
 use Rattle.its_numbers.specs.declared.limits.GuestLimits.{GuestLimits}
 use Rattle.its_c.specs.Keeping.{Held}
 
@@ -23,8 +24,8 @@ abbrev pub described_with : Desc → ℕ × ℕ → Desc
 described_with d w = record d { windows = one_more d.windows w }
 
 -- so what is beside a machine
-abbrev pub beside_with : ℕ × ℕ → Desc × GuestLimits → Desc × GuestLimits
-beside_with w b = (described_with b.0 w, b.1)
+abbrev pub beside_with : ℕ × ℕ → Desc × GuestLimits × Counters → Desc × GuestLimits × Counters
+beside_with w b = (described_with b.0 w, b.1, b.2)
 
 -- what a handle has, whose machine has it and whose description has it
 abbrev pub held_with : Held → ℕ × ℕ → Held

@@ -11,7 +11,8 @@ ghost use Rattle.its_c.specs.Asked.{is_count, wrote, wrote_reply, wrote_left};
 ghost use Rattle.its_numbers.specs.Stored.{stored};
 ghost use Rattle.its_numbers.specs.Lists.{HasFirst, SameFrom};
 ghost use Rattle.its_numbers.specs.Codes as codes;
-ghost use Rattle.its_c.specs.Held.{InMachine, InHeld, beside};
+ghost use Rattle.its_c.specs.Held.{InMachine, InHeld, beside, setting};
+ghost use Rattle.its_numbers.specs.Counters.{count_reply, count_signal};
 ghost use Rattle.its_c.specs.Keeping.{IsWriteCode};
 ghost use Rattle.its_c.specs.Routes.{KeepsRoutes};
 ghost use Rattle.its_numbers.specs.Events.{event_out};
@@ -164,12 +165,14 @@ pub extern "C" fn its_signal(
     out: &mut SignalOut,
 ) -> u32
     ensures empty { handle.old.machine ≡ None → (result ≡ codes.handle) × (out.new ≡ out.old) }
-    ensures kept { beside handle.new ≡ beside handle.old }
+    ensures kept { setting handle.new ≡ setting handle.old }
     ensures done { InMachine handle.old handle.new (λ u w. result ≡ codes.done) }
     ensures told { InMachine handle.old handle.new (λ u w.
         out.new ≡ replies.signal_out (signalled u device event)) }
     ensures left { InMachine handle.old handle.new (λ u w.
         w ≡ signal_left u (signalled u device event)) }
+    ensures counted { InHeld handle.old handle.new (λ h k.
+        k.counters ≡ count_signal (signalled h.machine device event) h.counters) }
 {
     if handle.is_empty() {
         return HANDLE;
@@ -188,7 +191,7 @@ pub extern "C" fn its_dma(
     out: &mut DmaOut,
 ) -> u32
     ensures empty { handle.old.machine ≡ None → (result ≡ codes.handle) × (out.new ≡ out.old) }
-    ensures kept { beside handle.new ≡ beside handle.old }
+    ensures kept { setting handle.new ≡ setting handle.old }
     ensures range { InMachine handle.old handle.new (λ u w.
         is_count bytes.now ≡ false → result ≡ codes.range) }
     ensures codes { InHeld handle.old handle.new (λ h k. is_count bytes.now ≡ true
@@ -202,6 +205,10 @@ pub extern "C" fn its_dma(
         → may_want_memory h.machine (wrote h requester address bytes.now) ≡ true) }
     ensures refused { InMachine handle.old handle.new (λ u w. result ≢ codes.done
         → (out.new ≡ out.old) × (w ≡ u)) }
+    ensures counted { InHeld handle.old handle.new (λ h k. result ≡ codes.done
+        → k.counters ≡ count_reply (wrote_reply h requester address bytes.now) h.counters) }
+    ensures uncounted { InHeld handle.old handle.new (λ h k.
+        result ≢ codes.done → k.counters ≡ h.counters) }
 {
     if handle.is_empty() {
         return HANDLE;

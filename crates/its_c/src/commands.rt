@@ -1,27 +1,21 @@
 //! Commands: the translator takes the next of its queue (IHI 0069, section 5.3).
-ghost use Rattle.std.specs.Prelude.{◌≡◌, ◌≢◌, ◌≤◌, ◌<◌, ℕ, true, false, length, map};
+ghost use Rattle.std.specs.Prelude.{◌≡◌, ◌≢◌, true, false, length, map};
 ghost use Rattle.guest_windows.specs.Windows.{extent};
 ghost use Rattle.owned_machine.specs.Lent.{on, left_on};
 ghost use Rattle.its_c.specs.LentBytes.{stretches_fit, lent, lent_left};
 ghost use Rattle.its_plain.specs.Answer as plain;
 ghost use Rattle.owned_machine.specs.Whole.{step_adds};
-ghost use Rattle.its_types.specs.Bitmap.{word_bit};
-ghost use Rattle.its_types.specs.Ranges.{most_vcpus};
-ghost use Rattle.owned_parts.specs.RedistSets.{is_in};
 ghost use Rattle.its_numbers.specs.Codes as codes;
 ghost use Rattle.its_numbers.specs.Limits.{is_full};
-ghost use Rattle.its_c.specs.Routes.{went_on, step_leaves_maps, KeepsRoutes};
+ghost use Rattle.its_c.specs.Routes.{stepped, KeepsRoutes};
 ghost use Rattle.its_c.specs.Concerns.{UnconcernedStay, AreConcerned, IsStepCode, IsLentStepCode};
 ghost use Rattle.its_numbers.specs.Replies as replies;
 
 use crate::kept::{Kept, StepError};
 use crate::lent_bytes::{lent_memory, stretches_fit};
 use crate::memory::memory_of;
-use crate::routes::step_leaves_maps;
 use guest_windows::Memory;
-use its_numbers::{DONE, FULL, NO_MEMORY, RANGE, StepOut, StretchOut, step_out};
-use its_types::{MOST_VCPUS, put_bit};
-use owned_parts::RedistSet;
+use its_numbers::{DONE, FULL, NO_MEMORY, RANGE, StepOut, StretchOut, concerned_words, step_out};
 use std::alloc::Global;
 use step_views::{concerned, concerned_on};
 
@@ -34,8 +28,8 @@ pub fn step(kept: &mut Kept, alloc: Global, out: &mut StepOut) -> u32
     ensures concerned { result ≡ codes.done
         → AreConcerned out.new.concerned kept.old.machine }
     ensures left { result ≡ codes.done
-        → kept.new ≡ went_on kept.old (plain.step_left kept.old.machine 0)
-        (step_leaves_maps (plain.step_reply kept.old.machine 0)) }
+        → kept.new ≡ stepped kept.old (plain.step_left kept.old.machine 0)
+        (plain.step_reply kept.old.machine 0) }
     ensures routes { KeepsRoutes kept.old kept.new }
     ensures full { result ≡ codes.full → is_full kept.old.limits kept.old.machine ≡ true }
     ensures where_full { is_full kept.old.limits kept.old.machine ≡ true → result ≡ codes.full }
@@ -43,10 +37,10 @@ pub fn step(kept: &mut Kept, alloc: Global, out: &mut StepOut) -> u32
     ensures codes { IsStepCode result }
     ensures refused { result ≢ codes.done → (out.new ≡ out.old) × (kept.new ≡ kept.old) }
 {
-    let concerned = words_of(concerned(kept.machine().parts(), 0));
+    let concerned = concerned_words(concerned(kept.machine().parts(), 0));
     match kept.step(alloc) {
         Ok(reply) => {
-            kept.count(step_leaves_maps(&reply));
+            kept.count_step(reply);
             *out = step_out(reply, concerned);
             DONE
         }
@@ -72,8 +66,8 @@ pub fn step_with(
     ensures concerned { result ≡ codes.done
         → AreConcerned out.new.concerned (lent kept.old.machine list.now bytes.now) }
     ensures left { result ≡ codes.done → kept.new
-        ≡ went_on kept.old (lent_left kept.old.machine list.now bytes.now)
-        (step_leaves_maps (plain.step_reply (lent kept.old.machine list.now bytes.now) 0)) }
+        ≡ stepped kept.old (lent_left kept.old.machine list.now bytes.now)
+        (plain.step_reply (lent kept.old.machine list.now bytes.now) 0) }
     ensures routes { KeepsRoutes kept.old kept.new }
     ensures full { result ≡ codes.full
         → is_full kept.old.limits (lent kept.old.machine list.now bytes.now) ≡ true }
@@ -101,8 +95,8 @@ fn step_on(kept: &mut Kept, memory: &Memory, out: &mut StepOut) -> u32
     ensures concerned { result ≡ codes.done
         → AreConcerned out.new.concerned (on memory.now kept.old.machine) }
     ensures left { result ≡ codes.done → kept.new
-        ≡ went_on kept.old (left_on memory.now kept.old.machine 0)
-        (step_leaves_maps (plain.step_reply (on memory.now kept.old.machine) 0)) }
+        ≡ stepped kept.old (left_on memory.now kept.old.machine 0)
+        (plain.step_reply (on memory.now kept.old.machine) 0) }
     ensures routes { KeepsRoutes kept.old kept.new }
     ensures full { result ≡ codes.full
         → is_full kept.old.limits (on memory.now kept.old.machine) ≡ true }
@@ -111,27 +105,14 @@ fn step_on(kept: &mut Kept, memory: &Memory, out: &mut StepOut) -> u32
     ensures codes { IsStepCode result }
     ensures refused { result ≢ codes.done → (out.new ≡ out.old) × (kept.new ≡ kept.old) }
 {
-    let concerned = words_of(concerned_on(kept.machine().parts(), memory, 0));
+    let concerned = concerned_words(concerned_on(kept.machine().parts(), memory, 0));
     match kept.step_on(memory) {
         Ok(reply) => {
-            kept.count(step_leaves_maps(&reply));
+            kept.count_step(reply);
             *out = step_out(reply, concerned);
             DONE
         }
         Err(StepError::Full) => FULL,
         Err(StepError::NoMemory) => NO_MEMORY,
     }
-}
-
-// A set as words, of which bit v % 64 of word v / 64 is that of virtual processor v.
-fn words_of(set: RedistSet) -> [u64; 8]
-    ensures { (v : ℕ) → v < most_vcpus → word_bit result v ≡ is_in set v }
-{
-    let mut words = [0; 8];
-    let mut next = 0;
-    while let Some(vcpu) = set.next(next, MOST_VCPUS) {
-        put_bit(&mut words, usize::from(vcpu), true);
-        next = vcpu + 1;
-    }
-    words
 }

@@ -9,7 +9,8 @@ ghost use Rattle.its_plain.specs.Doorbells.{route_of};
 ghost use Rattle.owned_machine.specs.Whole.{may_want_memory};
 ghost use Rattle.step_views.specs.Destinations.{destination};
 ghost use Rattle.its_numbers.specs.Codes as codes;
-ghost use Rattle.its_c.specs.Keeping.{with_machine, IsWriteCode};
+ghost use Rattle.its_c.specs.Keeping.{answered_with, with_machine, IsWriteCode};
+ghost use Rattle.its_plain.specs.declared.call.Reply.TheVariants as reply;
 ghost use Rattle.its_numbers.specs.Events.{event_out};
 ghost use Rattle.its_numbers.specs.Replies as replies;
 
@@ -28,8 +29,9 @@ use std::alloc::Global;
 pub fn signal(kept: &mut Kept, alloc: Global, device: u32, event: u32, out: &mut SignalOut) -> u32
     ensures done { result ≡ codes.done }
     ensures told { out.new ≡ replies.signal_out (signalled kept.old.machine device event) }
-    ensures left { kept.new ≡ with_machine kept.old
-        (signal_left kept.old.machine (signalled kept.old.machine device event)) }
+    ensures left { kept.new ≡ answered_with kept.old
+        (signal_left kept.old.machine (signalled kept.old.machine device event))
+        (reply.Signal (signalled kept.old.machine device event)) }
 {
     let call = Call::Signal {
         its: 0,
@@ -39,6 +41,7 @@ pub fn signal(kept: &mut Kept, alloc: Global, device: u32, event: u32, out: &mut
     let Ok(Reply::Signal(signal)) = kept.answer(alloc, &call) else {
         unreachable!()
     };
+    kept.count_signal(signal);
     *out = signal_out(signal);
     DONE
 }
@@ -58,8 +61,9 @@ pub fn dma(
     ensures told { result ≡ codes.done → out.new ≡ replies.dma_out
         (route_of kept.old.desc requester address bytes.now)
         (wrote_reply kept.old requester address bytes.now) }
-    ensures left { result ≡ codes.done → kept.new ≡ with_machine kept.old
-        (wrote_left kept.old requester address bytes.now) }
+    ensures left { result ≡ codes.done → kept.new ≡ answered_with kept.old
+        (wrote_left kept.old requester address bytes.now)
+        (wrote_reply kept.old requester address bytes.now) }
     ensures rare { result ≡ codes.no_memory
         → may_want_memory kept.old.machine (wrote kept.old requester address bytes.now) ≡ true }
     ensures refused { result ≢ codes.done → (out.new ≡ out.old) × (kept.new ≡ kept.old) }
@@ -73,6 +77,7 @@ pub fn dma(
     }
     match kept.dma(alloc, requester, Addr(address), bytes) {
         Ok((route, reply)) => {
+            kept.count_reply(&reply);
             *out = dma_out(route, reply);
             DONE
         }

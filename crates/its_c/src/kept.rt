@@ -3,12 +3,16 @@ ghost use Rattle.std.specs.Prelude.{◌≡◌};
 ghost use Rattle.owned_machine.specs.Lent.{on};
 ghost use Rattle.its_numbers.specs.Limits as spec;
 
-use crate::routes::next_count;
 use crate::windows::{meets_any, with_one};
 use dma_routes::route;
 use guest_windows::{Memory, NewError, Outside};
-use its_numbers::{GuestLimits, has_room, is_at, is_past, is_within, missing};
-use its_plain::{Bytes64, Call, Desc, DescFault, MakeError, Reply, Route, SaveError, StepReply};
+use its_numbers::{
+    Counters, GuestLimits, has_room, is_at, is_past, is_within, missing, missing_in, next_count,
+    step_leaves_maps,
+};
+use its_plain::{
+    Bytes64, Call, Desc, DescFault, MakeError, Reply, Route, SaveError, Signal, StepReply,
+};
 use its_types::Addr;
 use owned_machine::Machine;
 use std::alloc::{AllocError, Global};
@@ -23,6 +27,7 @@ pub struct Kept {
     desc: Desc,
     limits: GuestLimits,
     routes: u64,
+    counters: Counters,
 }
 
 impl Model for Kept {
@@ -57,7 +62,9 @@ impl Kept {
     ghost use Rattle.guest_windows.specs.Windows.{inside, extent};
     ghost use Rattle.its_c.specs.Keeping.{with_machine, maps_none};
     ghost use Rattle.its_numbers.specs.Limits.{no_limit, is_full, is_over};
-    ghost use Rattle.its_c.specs.Routes.{counted};
+    ghost use Rattle.its_numbers.specs.Counters.{none_counted, count_reply, count_signal};
+    ghost use Rattle.its_numbers.specs.Counters.{count_step};
+    ghost use Rattle.its_numbers.specs.Routes as ended;
     ghost use Rattle.its_c.specs.Windows.{held_with, window_test, IsWindowFault};
     ghost use Rattle.its_c.specs.declared.kept.StepError.TheVariants.{Full, NoMemory};
     ghost use Rattle.its_plain.specs.Answer as plain;
@@ -74,12 +81,14 @@ impl Kept {
         ensures machine { result.machine ≡ machine }
         ensures desc { result.desc ≡ desc }
         ensures limits { result.limits ≡ limits }
+        ensures counters { result.counters ≡ none_counted }
     {
         Kept {
             machine,
             desc,
             limits,
             routes: 0,
+            counters: Counters::new(),
         }
     }
 
@@ -100,11 +109,45 @@ impl Kept {
     /// Counts a call, unless it left the maps.
     pub fn count(&mut self, leaves_maps: bool)
         ensures { self.new
-            ≡ record self.old { routes = counted leaves_maps self.old.routes } }
+            ≡ record self.old { routes = ended.counted leaves_maps self.old.routes } }
     {
         if !leaves_maps {
             self.routes = next_count(self.routes);
         }
+    }
+
+    /// How often signals went where, and commands were refused.
+    pub fn counters(&self) -> Counters
+        ensures { result ≡ self.now.counters }
+    {
+        self.counters
+    }
+
+    /// Counts a signal that was answered so.
+    pub fn count_signal(&mut self, signal: Signal)
+        ensures { self.new
+            ≡ record self.old { counters = count_signal signal self.old.counters } }
+    {
+        self.counters.count_signal(signal);
+    }
+
+    /// Counts a call that was answered so, if it was a signal.
+    pub fn count_reply(&mut self, reply: &Reply)
+        ensures { self.new
+            ≡ record self.old { counters = count_reply reply.now self.old.counters } }
+    {
+        self.counters.count_reply(reply);
+    }
+
+    /// Counts a step that was answered so.
+    pub fn count_step(&mut self, reply: StepReply)
+        ensures { self.new ≡ record self.old {
+          routes = ended.counted (ended.step_leaves_maps reply) self.old.routes;
+          counters = count_step reply self.old.counters;
+        } }
+    {
+        self.count(step_leaves_maps(&reply));
+        self.counters.count_step(reply);
     }
 
     /// How much may be mapped.
@@ -120,6 +163,7 @@ impl Kept {
         ensures desc { self.new.desc ≡ self.old.desc }
         ensures limits { self.new.limits ≡ limits }
         ensures routes { self.new.routes ≡ self.old.routes }
+        ensures counters { self.new.counters ≡ self.old.counters }
     {
         self.limits = limits;
     }
@@ -176,11 +220,7 @@ impl Kept {
         }
         let parts = self.machine.parts();
         let tables = written_tables(alloc, &parts.in_place())?;
-        let mut pages: u64 = 0;
-        for table in &tables {
-            pages = pages.saturating_add(missing(&parts.memory, table.0.0, table.1));
-        }
-        Ok(has_room(&parts.memory, limit, pages))
+        Ok(has_room(&parts.memory, limit, missing_in(&parts.memory, &tables)))
     }
 
     /// Answers a call that is no step.
@@ -323,6 +363,7 @@ impl Kept {
         ensures desc { self.new.desc ≡ self.old.desc }
         ensures limits { self.new.limits ≡ self.old.limits }
         ensures routes { self.new.routes ≡ self.old.routes }
+        ensures counters { self.new.counters ≡ self.old.counters }
     {
         self.machine.migrate(alloc)
     }

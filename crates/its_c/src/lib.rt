@@ -7,6 +7,9 @@ mod ack_calls;
 mod asked_tests;
 mod calls;
 mod commands;
+mod count_calls;
+#[cfg(test)]
+mod count_tests;
 mod handle;
 mod interrupts;
 mod kept;
@@ -27,7 +30,6 @@ mod pending;
 mod pieces;
 mod ranges;
 mod registers;
-mod routes;
 mod saves;
 mod step_calls;
 mod stretches;

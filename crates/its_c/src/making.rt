@@ -4,6 +4,7 @@ ghost use Rattle.std.specs.Prelude.{length};
 ghost use Rattle.its_plain.specs.Described.{IsFirstState, IsMadeFrom};
 ghost use Rattle.its_plain.specs.Machine.{IsDescription};
 ghost use Rattle.its_numbers.specs.Codes as codes;
+ghost use Rattle.its_numbers.specs.Counters.{none_counted};
 ghost use Rattle.its_numbers.specs.Descriptions.{is_in_range as in_range, description_of};
 ghost use Rattle.its_numbers.specs.Descriptions.{guest_limits_of};
 ghost use Rattle.its_c.specs.Keeping.{kept_of};
@@ -101,6 +102,7 @@ fn made(alloc: Global, mut desc: Desc, limits: GuestLimits) -> Result<Box<Kept>,
     ensures state { IfOk result (λ b. IsFirstState desc b.value.machine) }
     ensures desc { IfOk result (λ b. b.value.desc ≡ kept_of desc) }
     ensures limits { IfOk result (λ b. b.value.limits ≡ limits) }
+    ensures counters { IfOk result (λ b. b.value.counters ≡ none_counted) }
     ensures refused { IfErr result (λ e. IsMadeFrom desc (Err e)) }
 {
     requesters_are_devices();

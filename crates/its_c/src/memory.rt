@@ -33,7 +33,8 @@ pub fn write_memory(kept: &mut Kept, alloc: Global, address: u64, bytes: &[u8]) 
     ensures codes { IsStretch kept.old.machine.memory address (length bytes.now)
         → IsWriteCode result kept.old.limits }
     ensures full { result ≡ codes.full → kept.new ≡ kept.old }
-    ensures beside { (kept.new.desc ≡ kept.old.desc) × (kept.new.limits ≡ kept.old.limits) }
+    ensures beside { (kept.new.desc ≡ kept.old.desc) × (kept.new.limits ≡ kept.old.limits)
+        × (kept.new.counters ≡ kept.old.counters) }
     ensures done { result ≡ codes.done
         → kept.new ≡ with_machine kept.old (written_to kept.old.machine address bytes.now) }
     ensures no_memory { result ≡ codes.no_memory → kept.new ≡ kept.old }

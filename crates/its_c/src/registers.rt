@@ -8,12 +8,12 @@ ghost use Rattle.its_c.specs.Asked.{is_size as is, has_vcpu as has, has_register
 ghost use Rattle.its_numbers.specs.Stored.{stored};
 ghost use Rattle.its_numbers.specs.Codes as codes;
 ghost use Rattle.its_c.specs.Keeping.{with_machine};
-ghost use Rattle.its_c.specs.Routes.{went_on, is_no_table, KeepsRoutes};
+ghost use Rattle.its_c.specs.Routes.{went_on, KeepsRoutes};
+ghost use Rattle.its_numbers.specs.Routes as ended;
 
 use crate::kept::Kept;
 use crate::ranges::{has_vcpu, is_size};
-use crate::routes::is_no_table;
-use its_numbers::{DONE, NO_MEMORY, RANGE, RedistributorIn};
+use its_numbers::{DONE, NO_MEMORY, RANGE, RedistributorIn, is_no_table};
 use its_plain::{Call, Reply};
 use its_types::Vcpu;
 use std::alloc::Global;
@@ -47,7 +47,7 @@ pub fn write_register(kept: &mut Kept, alloc: Global, offset: u32, size: u32, va
     ensures code { result ≡ codes.if_in_range (is size) }
     ensures left { is size ≡ true
         → kept.new ≡ went_on kept.old (written kept.old.machine 0 offset size value)
-        (is_no_table offset) }
+        (ended.is_no_table offset) }
     ensures routes { KeepsRoutes kept.old kept.new }
     ensures refused { is size ≡ false → kept.new ≡ kept.old }
 {

@@ -16,7 +16,8 @@ pub fn save(kept: &mut Kept, alloc: Global, fault: &mut SaveFaultOut) -> u32
     ensures done { result ≡ codes.done → IsSaved kept.old.machine kept.new.machine }
     ensures otherwise { IsUnsaved result kept.old.machine kept.new.machine fault.old fault.new }
     ensures full { result ≡ codes.full → kept.old.limits.memory ≢ no_limit }
-    ensures beside { (kept.new.desc ≡ kept.old.desc) × (kept.new.limits ≡ kept.old.limits) }
+    ensures beside { (kept.new.desc ≡ kept.old.desc) × (kept.new.limits ≡ kept.old.limits)
+        × (kept.new.counters ≡ kept.old.counters) }
 {
     match kept.has_room_for_tables(alloc) {
         Ok(true) => {}
@@ -41,7 +42,8 @@ pub fn migrate(kept: &mut Kept, alloc: Global, fault: &mut SaveFaultOut) -> u32
     ensures otherwise { IsUnsaved result kept.old.machine kept.new.machine fault.old fault.new }
     ensures routes { KeepsRoutes kept.old kept.new }
     ensures full { result ≡ codes.full → kept.old.limits.memory ≢ no_limit }
-    ensures beside { (kept.new.desc ≡ kept.old.desc) × (kept.new.limits ≡ kept.old.limits) }
+    ensures beside { (kept.new.desc ≡ kept.old.desc) × (kept.new.limits ≡ kept.old.limits)
+        × (kept.new.counters ≡ kept.old.counters) }
 {
     match kept.has_room_for_tables(alloc) {
         Ok(true) => {}

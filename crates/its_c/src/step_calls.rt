@@ -3,7 +3,8 @@ ghost use Rattle.std.specs.Prelude.{◌≡◌, ◌≢◌, ◌⊎◌, true, false
 ghost use Rattle.its_plain.specs.Answer.{step_reply, step_left};
 ghost use Rattle.owned_machine.specs.Whole.{step_adds};
 ghost use Rattle.its_numbers.specs.Codes as codes;
-ghost use Rattle.its_c.specs.Held.{InMachine, InHeld, beside};
+ghost use Rattle.its_c.specs.Held.{InMachine, InHeld, beside, setting};
+ghost use Rattle.its_numbers.specs.Counters.{count_step};
 ghost use Rattle.its_numbers.specs.Limits.{is_full, no_limit};
 ghost use Rattle.its_c.specs.Concerns.{UnconcernedStay, AreConcerned, IsStepCode, IsLentStepCode};
 ghost use Rattle.its_c.specs.LentBytes.{stretches_fit, lent, lent_left};
@@ -77,7 +78,7 @@ pub extern "C" fn its_needs_of(
 #[unsafe(no_mangle)]
 pub extern "C" fn its_step(handle: &mut Handle, alloc: Global, out: &mut StepOut) -> u32
     ensures empty { handle.old.machine ≡ None → (result ≡ codes.handle) × (out.new ≡ out.old) }
-    ensures kept { beside handle.new ≡ beside handle.old }
+    ensures kept { setting handle.new ≡ setting handle.old }
     ensures codes { InMachine handle.old handle.new (λ u w. IsStepCode result) }
     ensures told { InMachine handle.old handle.new (λ u w. result ≡ codes.done
         → out.new ≡ replies.step_out (step_reply u 0) out.new.concerned) }
@@ -96,6 +97,10 @@ pub extern "C" fn its_step(handle: &mut Handle, alloc: Global, out: &mut StepOut
     ensures refused { InMachine handle.old handle.new (λ u w.
         result ≢ codes.done → (out.new ≡ out.old) × (w ≡ u)) }
     ensures routes { InHeld handle.old handle.new (λ h k. KeepsRoutes h k) }
+    ensures counted { InHeld handle.old handle.new (λ h k. result ≡ codes.done
+        → k.counters ≡ count_step (step_reply h.machine 0) h.counters) }
+    ensures uncounted { InHeld handle.old handle.new (λ h k.
+        result ≢ codes.done → k.counters ≡ h.counters) }
 {
     if handle.is_empty() {
         return HANDLE;
@@ -114,7 +119,7 @@ pub extern "C" fn its_step_with(
     out: &mut StepOut,
 ) -> u32
     ensures empty { handle.old.machine ≡ None → (result ≡ codes.handle) × (out.new ≡ out.old) }
-    ensures kept { beside handle.new ≡ beside handle.old }
+    ensures kept { setting handle.new ≡ setting handle.old }
     ensures codes { InMachine handle.old handle.new (λ u w. IsLentStepCode result) }
     ensures range { InMachine handle.old handle.new (λ u w.
         stretches_fit list.now (length bytes.now) ≡ false → result ≡ codes.range) }
@@ -136,6 +141,10 @@ pub extern "C" fn its_step_with(
     ensures refused { InMachine handle.old handle.new (λ u w.
         result ≢ codes.done → (out.new ≡ out.old) × (w ≡ u)) }
     ensures routes { InHeld handle.old handle.new (λ h k. KeepsRoutes h k) }
+    ensures counted { InHeld handle.old handle.new (λ h k. result ≡ codes.done
+        → k.counters ≡ count_step (step_reply (lent h.machine list.now bytes.now) 0) h.counters) }
+    ensures uncounted { InHeld handle.old handle.new (λ h k.
+        result ≢ codes.done → k.counters ≡ h.counters) }
 {
     if handle.is_empty() {
         return HANDLE;

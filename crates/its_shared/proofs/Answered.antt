@@ -9,7 +9,6 @@ use Rattle.its_plain.specs.declared.call.Call.{Call}
 use Rattle.its_plain.specs.declared.call.Call.TheVariants as call
 use Rattle.its_plain.specs.declared.call.Route.{Route}
 use Rattle.its_plain.specs.declared.call.Route.TheVariants as routes
-use Rattle.its_plain.specs.declared.call.StepReply.{StepReply}
 use Rattle.its_plain.specs.declared.desc.Desc.{Desc}
 use Rattle.its_plain.specs.declared.fault.SaveFault.{SaveFault}
 use Rattle.its_plain.specs.Answer.{save_reply}
@@ -22,7 +21,9 @@ use Rattle.its_steps.specs.World.{View}
 use Rattle.its_turns.specs.Calls.{TriesPart, TriesBoth, GaveUp}
 use Rattle.its_turns.specs.declared.attempts.Attempt.{Attempt}
 use Rattle.its_turns.specs.declared.attempts.Attempt.TheVariants as attempt
+use Rattle.cmd_engine.specs.Concern.{step_said}
 use Rattle.cmd_engine.specs.Tries.{TriesOnce}
+use Rattle.cmd_engine.specs.declared.stepped.Stepped.{Stepped}
 use Rattle.cmd_engine.specs.declared.tried.Tried.{Tried}
 use Rattle.cmd_engine.specs.declared.tried.Tried.TheVariants as tried
 use Rattle.device_port.specs.Dmas.{reply_of}
@@ -34,9 +35,11 @@ use Rattle.guest_port.specs.declared.pages.Unheld.{Unheld}
 use Rattle.guest_port.specs.declared.pages.Unheld.TheVariants as unheld
 use Rattle.gicr_lpi.specs.Accesses.{IsOfWrite, WasAsked, access, write_call}
 use Rattle.gicr_lpi.specs.Tries.{TriesParts, FoundNoMemory}
-use Rattle.its_migrate.specs.Tries.{TriesSave, HadNoMemory}
+use Rattle.its_migrate.specs.Tries.{TriesSave, IsGivenUp}
+use Rattle.its_migrate.specs.declared.rule.Unsaved.{Unsaved}
+use Rattle.its_migrate.specs.declared.rule.Unsaved.TheVariants as unsaved
 use Rattle.lpi_pending.specs.Rooms.{is_enable}
-use Rattle.its_shared.specs.Answers.{Answers, answer_of, answer_of_tried, answer_or_none, answer_or_unheld}
+use Rattle.its_shared.specs.Answers.{Answers, answer_of, answer_of_tried, answer_or_none, answer_or_unheld, answer_or_unsaved}
 use Rattle.its_shared.specs.Asked as asked
 use Rattle.its_shared.specs.Knowing.{Known}
 use Rattle.its_shared.specs.declared.answer.Answer.{Answer}
@@ -118,8 +121,8 @@ of_dma d req addr bytes v w (Err unheld.NoMemory) t = (t.1.stays, t.0)
 of_dma d req addr bytes v w (Err unheld.Full) t = (t.1.stays, t.0)
 
 -- a step
-pub of_step : (P : Part → Type 0) (v w : View) (r : Tried StepReply) → TriesOnce P v asked.step reply.Step w r
-    → Answers asked.step reply.Step v w (answer_of_tried r)
+pub of_step : (P : Part → Type 0) (v w : View) (r : Tried Stepped) → TriesOnce P v asked.step step_said w r
+    → Answers asked.step step_said v w (answer_of_tried r)
 of_step P v w (tried.Done p) t = t.0.placed
 of_step P v w (tried.Busy b) t = (t.busy.stays, inl t.busy.out)
 of_step P v w (tried.Raced r) t = (t.stays, inl t.why.out)
@@ -147,7 +150,8 @@ of_save_made v w (attempt.Busy b) t = (t.3.stays, inl t.3.out)
 of_save_made v w (attempt.Raced r) t = (t.2.stays, inl t.2.out)
 of_save_made v w attempt.Spent t = (t.2.stays, t.2.spent)
 
-pub of_save : (v w : View) (r : Result (Attempt (Result (Unit {0}) SaveFault)) AllocError)
-    → MatchResult r (λ t. TriesSave v w t) (λ _. HadNoMemory v w) → Answers call.Save save_reply v w (answer_or_none r)
+pub of_save : (v w : View) (r : Result (Attempt (Result (Unit {0}) SaveFault)) Unsaved)
+    → MatchResult r (λ t. TriesSave v w t) (λ _. IsGivenUp v w) → Answers call.Save save_reply v w (answer_or_unsaved r)
 of_save v w (Ok a) t = of_save_made v w a t
-of_save v w (Err e) t = (t.2.stays, tt)
+of_save v w (Err unsaved.NoMemory) t = (t.2.stays, tt)
+of_save v w (Err unsaved.Full) t = (t.2.stays, tt)

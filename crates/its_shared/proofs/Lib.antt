@@ -10,3 +10,5 @@ pub mod Home
 pub mod Shown
 pub mod Limiting
 pub mod Rooted
+pub mod Counted
+pub mod Concerning

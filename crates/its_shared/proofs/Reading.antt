@@ -13,7 +13,7 @@ use Rattle.its_shared.specs.Asked as asked
 use Rattle.its_shared.specs.declared.answer.Answer.{Answer}
 use Rattle.its_shared.specs.declared.answer.Answer.TheVariants.{Made, Busy, Spent, NoMemory, Full}
 
-last_legal : (u : Plain) (h : List Entry) (e : Entry) → IsLegal u (h ++ e ∷ []) → e.reply ≡ (answer (after u h) e.call).0
+pub last_legal : (u : Plain) (h : List Entry) (e : Entry) → IsLegal u (h ++ e ∷ []) → e.reply ≡ (answer (after u h) e.call).0
 last_legal u [] e p = p.0
 last_legal u (x ∷ h) e p = last_legal (answer u x.call).1 h e p.1
 

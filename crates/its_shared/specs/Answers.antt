@@ -18,6 +18,8 @@ use Rattle.cmd_engine.specs.declared.tried.Tried.TheVariants as tried
 use Rattle.gicr_lpi.specs.Accesses.{WasAsked, access}
 use Rattle.guest_port.specs.declared.pages.Unheld.{Unheld}
 use Rattle.guest_port.specs.declared.pages.Unheld.TheVariants as unheld
+use Rattle.its_migrate.specs.declared.rule.Unsaved.{Unsaved}
+use Rattle.its_migrate.specs.declared.rule.Unsaved.TheVariants as unsaved
 use Rattle.lpi_pending.specs.Rooms.{is_enable}
 use Rattle.std.specs.declared.alloc.AllocError.{AllocError}
 use Rattle.its_shared.specs.declared.answer.Answer.{Answer}
@@ -42,6 +44,12 @@ abbrev pub answer_or_unheld : {T : Type 0} → Result (Attempt T) Unheld → Ans
 answer_or_unheld (Ok a) = answer_of a
 answer_or_unheld (Err unheld.NoMemory) = NoMemory
 answer_or_unheld (Err unheld.Full) = Full
+
+-- of a save whose pages may not be held
+abbrev pub answer_or_unsaved : {T : Type 0} → Result (Attempt T) Unsaved → Answer T
+answer_or_unsaved (Ok a) = answer_of a
+answer_or_unsaved (Err unsaved.NoMemory) = NoMemory
+answer_or_unsaved (Err unsaved.Full) = Full
 
 -- of a step, or of a write of the translator's registers
 abbrev pub answer_of_tried : {T : Type 0} → Tried T → Answer T
@@ -71,11 +79,12 @@ Wants (call.Dma req addr bytes to) v w = to ≡ route.Poke
 Wants call.Save v w = Unit {0}
 Wants other v w = ⊥
 
--- which calls are held to a limit: a step, and a write of guest memory
+-- which calls are held to a limit: a step, a write of guest memory, and a save
 abbrev pub HasLimit : Call → Type 0
 HasLimit (call.Step its) = Unit {0}
 HasLimit (call.Poke addr bytes) = Unit {0}
 HasLimit (call.Dma req addr bytes to) = to ≡ route.Poke
+HasLimit call.Save = Unit {0}
 HasLimit other = ⊥
 
 -- Where a call was made, one entry came into the history of the machine: its own, at its place, with its reply, after all that the

@@ -1,6 +1,7 @@
 -- What a pass knows, as the calls speak of it.
 use Rattle.std.specs.Prelude.{ℕ, ◌^◌, Bool, ◌==◌, ◌&&◌, nat_lt}
 use Rattle.its_plain.specs.declared.desc.Desc.{Desc}
+use Rattle.its_numbers.specs.declared.counters.Counters.{Counters}
 use Rattle.its_numbers.specs.declared.limits.GuestLimits.{GuestLimits}
 use Rattle.its_steps.specs.Parts.{vcpu_count}
 use Rattle.its_steps.specs.World.{View}
@@ -12,10 +13,18 @@ pub record Known : Type 0 where
   pub desc : Desc
   -- how much the guest may take by its calls
   pub limits : GuestLimits
+  -- how often its calls may have ended a translation
+  pub routes : ℕ
+  -- how often its signals went where, and its commands were refused
+  pub counters : Counters
 
--- what it knows beside the view
-abbrev pub beside : Known → Desc × GuestLimits
-beside k = (k.desc, k.limits)
+-- what it knows of the machine beside the view, and what it keeps to
+abbrev pub setting : Known → Desc × GuestLimits
+setting k = (k.desc, k.limits)
+
+-- and what it has counted
+abbrev pub beside : Known → Desc × GuestLimits × ℕ × Counters
+beside k = (k.desc, k.limits, k.routes, k.counters)
 
 -- there is a virtual processor of this number
 abbrev pub has_vcpu : Known → ℕ → Bool

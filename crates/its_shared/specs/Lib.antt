@@ -1,6 +1,8 @@
 pub mod Answers
 pub mod Asked
 pub mod Besides
+pub mod Concerns
+pub mod Counting
 pub mod Knowing
 pub mod Lending
 pub mod Limits

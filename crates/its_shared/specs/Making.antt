@@ -7,6 +7,7 @@ use Rattle.its_plain.specs.declared.make.MakeError.TheVariants as errors
 use Rattle.its_steps.specs.World.{first_view}
 use Rattle.its_types.specs.declared.machine.Limits.{Limits}
 use Rattle.its_turns.specs.Opening.{kept_of}
+use Rattle.its_numbers.specs.Counters.{none_counted}
 use Rattle.its_numbers.specs.Limits.{IsTooMuch, is_over}
 use Rattle.its_numbers.specs.declared.limits.GuestLimits.{GuestLimits}
 use Rattle.its_shared.specs.Knowing.{Known}
@@ -20,13 +21,14 @@ wide_places = record { stamp_last = 2 ^ 8 - 1; place_last = 2 ^ 56 - 1 }
 abbrev pub shared : Desc → Desc
 shared d = record d { shards = 64; limits = wide_places }
 
--- the root of a machine that begins in the first state of the description: it has seen no call, and none was made
+-- the root of a machine that begins in the first state of the description: it has seen no call, none was made, and none counted
 pub record IsFirst (d : Desc) (k : Known) : Type 0 where
   pub start : IsFirstState d k.view.setup.start
   pub limits : k.view.setup.limits ≡ d.limits
   pub shards : k.view.setup.shards ≡ d.shards
   pub first : k.view ≡ first_view k.view.setup
   pub desc : k.desc ≡ kept_of d
+  pub counted : (k.routes ≡ 0) × (k.counters ≡ none_counted)
 
 -- or the first thing that is wrong with the description, unless memory ran out
 abbrev pub IsSharedFrom : Desc → Result Known MakeError → Type 0

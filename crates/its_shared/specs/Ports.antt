@@ -1,6 +1,7 @@
 -- A pass with the machine that it is of.
 use Rattle.std.specs.Prelude.{◌≡◌, []}
 use Rattle.device_port.specs.Routes.{AreDevices}
+use Rattle.its_numbers.specs.Counters.{none_counted}
 use Rattle.its_types.specs.declared.machine.Word.{Word}
 use Rattle.its_steps.specs.World.{View, split_off, has_split}
 use Rattle.its_turns.specs.Machines.{view, IsOf}
@@ -11,7 +12,7 @@ use Rattle.its_shared.specs.declared.port.Port.TheInside.{Inside}
 
 -- what the pass knows
 abbrev pub known_by : Inside → Known
-known_by p = record { view = view p.pass; desc = (arc_value p.machine).desc; limits = p.limits }
+known_by p = record { view = view p.pass; desc = (arc_value p.machine).desc; limits = p.limits; routes = p.routes; counters = p.counters }
 
 -- the pass is one of the machine, and holds nothing
 pub record IsPort (p : Inside) : Type 0 where
@@ -28,3 +29,5 @@ pub record Splits (k l p : Known) : Type 0 where
   pub pass : p.view ≡ split_off before
   pub desc : (l.desc ≡ k.desc) × (p.desc ≡ k.desc)
   pub limits : (l.limits ≡ k.limits) × (p.limits ≡ k.limits)
+  pub counted : (l.routes ≡ k.routes) × (l.counters ≡ k.counters)
+  pub fresh : (p.routes ≡ 0) × (p.counters ≡ none_counted)

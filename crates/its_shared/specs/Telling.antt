@@ -1,5 +1,5 @@
 -- What a call of a pass tells a caller in another language.
-use Rattle.std.specs.Prelude.{◌≡◌, ℕ, ◌^◌, ◌-◌, List, replicate, Option, Some, Result, Ok, Err}
+use Rattle.std.specs.Prelude.{◌≡◌, ℕ, List, Option, Some, Result, Ok, Err}
 use Rattle.std.specs.Option.{option_map}
 use Rattle.its_plain.specs.declared.call.Call.{Call}
 use Rattle.its_plain.specs.declared.call.Reply.{Reply}
@@ -7,7 +7,6 @@ use Rattle.its_plain.specs.declared.desc.Desc.{Desc}
 use Rattle.its_plain.specs.declared.call.Reply.TheVariants as replies
 use Rattle.its_plain.specs.declared.call.Route.{Route}
 use Rattle.its_plain.specs.declared.call.StepReply.{StepReply}
-use Rattle.its_plain.specs.declared.call.StepReply.TheVariants as steps
 use Rattle.its_plain.specs.declared.fault.SaveFault.{SaveFault}
 use Rattle.device_port.specs.Dmas.{reply_of}
 use Rattle.device_port.specs.declared.told.Dma.{Dma}
@@ -15,11 +14,12 @@ use Rattle.its_numbers.specs.Codes as codes
 use Rattle.its_numbers.specs.Faults.{save_fault_out}
 use Rattle.its_numbers.specs.Replies.{step_out, dma_out}
 use Rattle.its_numbers.specs.declared.faults.SaveFaultOut.{SaveFaultOut}
+use Rattle.its_numbers.specs.declared.counters.Counters.{Counters}
 use Rattle.its_numbers.specs.declared.limits.GuestLimits.{GuestLimits}
 use Rattle.its_numbers.specs.declared.replies.DmaOut.{DmaOut}
 use Rattle.its_numbers.specs.declared.replies.StepOut.{StepOut}
 use Rattle.its_shared.specs.Answers.{Answers}
-use Rattle.its_shared.specs.Knowing.{Known, beside}
+use Rattle.its_shared.specs.Knowing.{Known, beside, setting}
 use Rattle.its_shared.specs.declared.answer.Answer.{Answer}
 use Rattle.its_shared.specs.declared.answer.Answer.TheVariants.{Made, Busy, Spent, NoMemory, Full}
 use Rattle.its_shared.specs.declared.pass.Pass.{Pass}
@@ -72,13 +72,9 @@ nothing_told reply out = out
 abbrev pub value_told : ℕ → ℕ → ℕ
 value_told value out = value
 
--- every processor may be concerned where a command ran, and none is where none did
-abbrev pub concerned_by : StepReply → List ℕ
-concerned_by (steps.Ran op) = replicate 8 (2 ^ 64 - 1)
-concerned_by other = replicate 8 0
-
-abbrev pub step_told : StepReply → StepOut
-step_told step = step_out step (concerned_by step)
+-- with the processors that it concerned
+abbrev pub step_told : List ℕ → StepReply → StepOut
+step_told concerned step = step_out step concerned
 
 -- a write of guest memory, whose bytes lie in one window or don't
 abbrev pub write_code : Reply → ℕ
@@ -114,5 +110,9 @@ abbrev pub InPass : Pass → Pass → (Known → Known → Type 0) → Type 0
 InPass before after P = (k l : Known) → before.known ≡ Some k → after.known ≡ Some l → P k l
 
 -- the description of the machine that the pass of a handle is of, and the limits that it keeps to, if it has one
-abbrev pub machine_of : Pass → Option (Desc × GuestLimits)
+abbrev pub setting_of : Pass → Option (Desc × GuestLimits)
+setting_of pass = option_map setting pass.known
+
+-- and what it has counted
+abbrev pub machine_of : Pass → Option (Desc × GuestLimits × ℕ × Counters)
 machine_of pass = option_map beside pass.known

@@ -1,10 +1,11 @@
 //! The answer of a call that waits for nobody.
 ghost use Rattle.std.specs.Prelude.{◌≡◌};
 ghost use Rattle.its_shared.specs.Answers.{answer_of, answer_of_tried, answer_or_none};
-ghost use Rattle.its_shared.specs.Answers.{answer_or_unheld};
+ghost use Rattle.its_shared.specs.Answers.{answer_or_unheld, answer_or_unsaved};
 
 use cmd_engine::Tried;
 use guest_port::Unheld;
+use its_migrate::Unsaved;
 use its_turns::Attempt;
 use its_types::Placed;
 use std::alloc::AllocError;
@@ -53,6 +54,17 @@ pub fn answered_held<T>(tried: Result<Attempt<T>, Unheld>) -> Answer<T>
         Ok(attempt) => answered(attempt),
         Err(Unheld::NoMemory) => Answer::NoMemory,
         Err(Unheld::Full) => Answer::Full,
+    }
+}
+
+/// Of an attempt of a save, whose pages may not be held.
+pub fn answered_saved<T>(tried: Result<Attempt<T>, Unsaved>) -> Answer<T>
+    ensures { result ≡ answer_or_unsaved tried }
+{
+    match tried {
+        Ok(attempt) => answered(attempt),
+        Err(Unsaved::NoMemory) => Answer::NoMemory,
+        Err(Unsaved::Full) => Answer::Full,
     }
 }
 

@@ -1,16 +1,16 @@
 //! The calls of a pass, each turn that it needs tried once.
 ghost use Rattle.std.specs.Prelude.{◌≡◌};
 
-use crate::answer::{Answer, answered, answered_held, answered_if, answered_tried};
+use crate::answer::{Answer, answered, answered_held, answered_if, answered_saved, answered_tried};
 use crate::limits::Within;
 use crate::port::Port;
-use cmd_engine::{try_read_reg, try_step_within, try_write_reg};
+use cmd_engine::{Stepped, try_read_reg, try_step_told, try_write_reg};
 use device_port::{Dma, signal_once, try_dma_within};
 use dma_routes::route;
 use gicr_lpi::{try_read_gicr, try_write_gicr};
 use guest_port::{try_peek, try_poke_within};
-use its_migrate::try_save;
-use its_plain::{Ack, Bytes64, Reply, Route, SaveFault, Signal, StepReply};
+use its_migrate::try_save_within;
+use its_plain::{Ack, Bytes64, Reply, Route, SaveFault, Signal};
 use its_types::{Addr, DeviceId, EventId, Intid, Open, Vcpu};
 use redist_ack::{try_best, try_claim, try_show, try_take};
 use std::alloc::Global;
@@ -19,11 +19,13 @@ impl Port {
     ghost use Rattle.std.specs.Prelude.{◌≡◌, ◌≢◌, true};
     ghost use Rattle.device_port.specs.Dmas.{reply_of};
     ghost use Rattle.its_plain.specs.Answer.{save_reply};
+    ghost use Rattle.cmd_engine.specs.Concern.{step_said};
     ghost use Rattle.its_plain.specs.Doorbells.{route_of};
     ghost use Rattle.its_plain.specs.declared.call.Call.TheVariants as call;
     ghost use Rattle.its_plain.specs.declared.call.Reply.TheVariants as reply;
     ghost use Rattle.its_shared.specs.Answers.{Answers, HasCount};
     ghost use Rattle.its_shared.specs.Asked as asked;
+    ghost use Rattle.its_shared.specs.Concerns.{NamesConcerned};
     ghost use Rattle.its_shared.specs.Knowing as spec;
     ghost use Rattle.its_shared.specs.Limits.{KeepsWithin};
     ghost use Rattle.its_shared.specs.declared.answer.Answer.TheVariants.{Full};
@@ -143,16 +145,18 @@ impl Port {
         ))
     }
 
-    /// The translator takes its next command, if that maps no more than may be.
-    pub fn step(&mut self) -> Answer<StepReply>
+    /// The translator takes its next command, if that maps no more than may be, and tells whom that
+    /// concerned.
+    pub fn step(&mut self) -> Answer<Stepped>
         ensures beside { spec.beside self.new ≡ spec.beside self.old }
-        ensures answer { Answers asked.step reply.Step
+        ensures answer { Answers asked.step step_said
             self.old.view self.new.view result }
         ensures within { KeepsWithin self.old.limits self.old.view.setup.start self.new.view.seen
             result }
+        ensures concerned { NamesConcerned self.old.view.setup.start self.new.view.seen result }
     {
         let limits = Within(self.limits);
-        answered_tried(try_step_within(&self.machine, &mut self.pass, &Open, 0, &limits))
+        answered_tried(try_step_told(&self.machine, &mut self.pass, &Open, 0, &limits))
     }
 
     /// A write of guest memory, if no more pages are held for it than may be.
@@ -183,13 +187,15 @@ impl Port {
         answered(try_peek(&self.machine, &mut self.pass, &Open, Addr(address), count))
     }
 
-    /// The tables are written to guest memory.
+    /// The tables are written to guest memory, if no more pages are held for them than may be.
     pub fn save(&mut self, alloc: Global) -> Answer<Result<(), SaveFault>>
         ensures beside { spec.beside self.new ≡ spec.beside self.old }
         ensures answer { Answers call.Save save_reply
             self.old.view self.new.view result }
+        ensures full { result ≡ Full → self.old.limits.memory ≢ no_limit }
     {
-        answered_if(try_save(alloc, &self.machine, &mut self.pass, &Open))
+        let limits = Within(self.limits);
+        answered_saved(try_save_within(alloc, &self.machine, &mut self.pass, &Open, &limits))
     }
 
     /// A requester's write at an address.

@@ -1,11 +1,14 @@
 //! Commands, saves, and guest memory.
 ghost use Rattle.std.specs.Prelude.{◌≡◌, ◌≢◌, false, true, length};
+ghost use Rattle.cmd_engine.specs.Concern.{BeforeLast};
 ghost use Rattle.its_numbers.specs.Codes as codes;
 ghost use Rattle.its_numbers.specs.Limits.{no_limit};
 ghost use Rattle.its_plain.specs.Answer.{save_reply};
 ghost use Rattle.its_plain.specs.declared.call.Call.TheVariants as call;
 ghost use Rattle.its_plain.specs.declared.call.Reply.TheVariants as reply;
-ghost use Rattle.its_shared.specs.Knowing.{beside};
+ghost use Rattle.its_shared.specs.Concerns.{AreConcerned, UnconcernedStay};
+ghost use Rattle.its_shared.specs.Counting.{Counts, KeepsRoutes};
+ghost use Rattle.its_shared.specs.Knowing.{beside, setting};
 ghost use Rattle.its_shared.specs.Limits.{StepsWithin};
 ghost use Rattle.its_shared.specs.Asked as asked;
 ghost use Rattle.its_shared.specs.Asked.{is_count};
@@ -14,19 +17,27 @@ ghost use Rattle.its_shared.specs.Telling.{nothing_told, save_code};
 ghost use Rattle.its_shared.specs.Telling.{save_told, step_told, write_code};
 
 use crate::port::Port;
-use crate::telling::{tell_bytes, tell_save, tell_step, tell_write};
+use crate::telling::{tell_bytes, tell_save, tell_write};
+use crate::telling_step::tell_step;
 use its_numbers::{RANGE, SaveFaultOut, StepOut};
 use its_plain::Bytes64;
 use std::alloc::Global;
 
 /// The translator takes its next command (IHI 0069, section 5.3).
 pub fn step(port: &mut Port, place: &mut u64, out: &mut StepOut) -> u32
-    ensures beside { beside port.new ≡ beside port.old }
-    ensures told { Tells is_done (as_told step_told) asked.step reply.Step
+    ensures setting { setting port.new ≡ setting port.old }
+    ensures told { Tells is_done (as_told (step_told out.new.concerned)) asked.step reply.Step
         port.old port.new result place.old place.new out.old out.new }
+    ensures unconcerned { result ≡ codes.done → BeforeLast (UnconcernedStay out.new.concerned)
+        port.old.view.setup.start port.new.view.seen }
+    ensures concerned { result ≡ codes.done → BeforeLast (AreConcerned out.new.concerned)
+        port.old.view.setup.start port.new.view.seen }
     ensures within { StepsWithin port.old port.new result }
+    ensures counts { Counts port.old port.new result }
+    ensures routes { KeepsRoutes port.old port.new result }
 {
     let answer = port.step();
+    port.count_step(&answer);
     tell_step(answer, place, out)
 }
 
@@ -35,6 +46,7 @@ pub fn save(port: &mut Port, alloc: Global, place: &mut u64, out: &mut SaveFault
     ensures beside { beside port.new ≡ beside port.old }
     ensures told { Tells save_code save_told call.Save save_reply
         port.old port.new result place.old place.new out.old out.new }
+    ensures full { result ≡ codes.full → port.old.limits.memory ≢ no_limit }
 {
     let answer = port.save(alloc);
     tell_save(answer, place, out)

@@ -11,6 +11,12 @@ mod answer;
 mod attempts;
 mod besides;
 mod commands;
+#[cfg(test)]
+mod concern_tests;
+mod count_calls;
+#[cfg(test)]
+mod count_tests;
+mod counting;
 mod event_look;
 mod lent;
 mod limit_calls;
@@ -35,6 +41,7 @@ mod step_calls;
 mod step_reads;
 mod stored_look;
 mod telling;
+mod telling_step;
 #[cfg(test)]
 mod tests;
 mod told;

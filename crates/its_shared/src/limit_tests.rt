@@ -3,9 +3,11 @@ use crate::limit_calls::its_pass_limits;
 use crate::making::{its_pass_free, its_split};
 use crate::message_calls::its_pass_dma;
 use crate::pass::Pass;
-use crate::step_calls::{its_pass_step, its_pass_write_memory};
+use crate::step_calls::{its_pass_save, its_pass_step, its_pass_write_memory};
 use crate::tests::{FILLS, NUMBERS, drive, shared_from, signalled};
-use its_numbers::{DONE, DescriptionIn, DmaOut, FULL, FillIn, HANDLE, OUTSIDE, SignalOut, StepOut};
+use its_numbers::{
+    DONE, DescriptionIn, DmaOut, FULL, FillIn, HANDLE, OUTSIDE, SaveFaultOut, SignalOut, StepOut,
+};
 use std::alloc::Global;
 
 const NONE: u64 = u64::MAX;
@@ -95,6 +97,21 @@ fn wrote(pass: &mut Pass, address: u64) -> u32 {
     its_pass_dma(pass, 7, address, &[1], &mut place, &mut out)
 }
 
+// The code of a save, and its place, which is 9 where none is told.
+fn saved(alloc: Global, pass: &mut Pass) -> (u32, u64) {
+    let mut place = 9;
+    let mut fault = SaveFaultOut {
+        kind: 0,
+        device: 0,
+        region: 0,
+        number: 0,
+        other_region: 0,
+        other_number: 0,
+    };
+    let code = its_pass_save(pass, alloc, &mut place, &mut fault);
+    (code, place)
+}
+
 // What a new machine answers, whose fill is in one page.
 fn filled(alloc: Global, memory: u64) -> (u32, u32) {
     let numbers = DescriptionIn {
@@ -128,6 +145,11 @@ fn memory(rt: HostRuntime) {
     assert_eq!(rt; wrote(&mut root, 0x8003_0000), DONE);
     assert_eq!(rt; its_pass_limits(&mut root, NONE, NONE, 0x4_0000), DONE);
     assert_eq!(rt; written(&mut root, 0x8001_0000), DONE);
+    assert_eq!(rt; its_pass_limits(&mut root, NONE, NONE, 0x5_0000), DONE);
+    assert_eq!(rt; drive(&mut root), (3, 26));
+    assert_eq!(rt; saved(alloc, &mut root), (FULL, 9));
+    assert_eq!(rt; its_pass_limits(&mut root, NONE, NONE, NONE), DONE);
+    assert_eq!(rt; saved(alloc, &mut root), (DONE, 27));
     assert_eq!(rt; its_pass_free(&mut root, alloc), DONE);
 }
 

@@ -4,8 +4,12 @@ use guest_port::PageRule;
 use guest_windows::Memory;
 use its_command::Command;
 use its_maps::Maps;
-use its_numbers::{GuestLimits, has_room, missing};
+use its_migrate::SaveRule;
+use its_numbers::{GuestLimits, has_room, missing, missing_in};
 use its_types::Addr;
+use owned_parts::InPlace;
+use std::alloc::{AllocError, Global};
+use table_save::written_tables;
 
 /// As much as the limits say, and no more.
 #[derive(Clone, Copy)]
@@ -33,5 +37,24 @@ impl PageRule for Within {
         limit == u64::MAX
             || !memory.inside(addr, len)
             || has_room(memory, limit, missing(memory, addr.0, len))
+    }
+}
+
+impl SaveRule for Within {
+    ghost use Rattle.std.specs.Prelude.{◌≢◌};
+    ghost use Rattle.its_numbers.specs.Limits.{no_limit};
+
+    // no clause says how many pages are held
+    ghost is_allowed = { λ _ _. Unit {0} };
+
+    ghost is_forbidden = { λ w _. w.0.memory ≢ no_limit };
+
+    fn allows(&self, alloc: Global, parts: &InPlace<'_>) -> Result<bool, AllocError> {
+        let limit = self.0.memory;
+        if limit == u64::MAX {
+            return Ok(true);
+        }
+        let tables = written_tables(alloc, parts)?;
+        Ok(has_room(parts.memory, limit, missing_in(parts.memory, &tables)))
     }
 }

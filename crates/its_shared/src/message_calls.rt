@@ -8,7 +8,8 @@ ghost use Rattle.its_plain.specs.Doorbells.{route_of};
 ghost use Rattle.its_plain.specs.declared.call.Reply.TheVariants as reply;
 ghost use Rattle.its_shared.specs.Asked as asked;
 ghost use Rattle.its_shared.specs.Asked.{is_count};
-ghost use Rattle.its_shared.specs.Telling.{InPass, Tells, as_told, dma_told, is_done, machine_of};
+ghost use Rattle.its_shared.specs.Counting.{Counts};
+ghost use Rattle.its_shared.specs.Telling.{InPass, Tells, as_told, dma_told, is_done, setting_of};
 
 use crate::messages::{dma, signal};
 use crate::pass::Pass;
@@ -25,10 +26,11 @@ pub extern "C" fn its_pass_signal(
 ) -> u32
     ensures empty { pass.old.known ≡ None
         → (result ≡ codes.handle) × (place.new ≡ place.old) × (out.new ≡ out.old) }
-    ensures kept { machine_of pass.new ≡ machine_of pass.old }
+    ensures kept { setting_of pass.new ≡ setting_of pass.old }
     ensures told { InPass pass.old pass.new (λ k l. Tells is_done (as_told signal_out)
         (asked.signal device event)
         reply.Signal k l result place.old place.new out.old out.new) }
+    ensures counts { InPass pass.old pass.new (λ k l. Counts k l result) }
 {
     if pass.is_empty() {
         return HANDLE;
@@ -48,7 +50,7 @@ pub extern "C" fn its_pass_dma(
 ) -> u32
     ensures empty { pass.old.known ≡ None
         → (result ≡ codes.handle) × (place.new ≡ place.old) × (out.new ≡ out.old) }
-    ensures kept { machine_of pass.new ≡ machine_of pass.old }
+    ensures kept { setting_of pass.new ≡ setting_of pass.old }
     ensures range { InPass pass.old pass.new (λ k l. is_count bytes.now ≡ false
         → (result ≡ codes.range) × (l ≡ k) × (place.new ≡ place.old) × (out.new ≡ out.old)) }
     ensures told { InPass pass.old pass.new (λ k l. is_count bytes.now ≡ true
@@ -57,6 +59,7 @@ pub extern "C" fn its_pass_dma(
         reply_of k l result place.old place.new out.old out.new) }
     ensures full { InPass pass.old pass.new (λ k l.
         result ≡ codes.full → k.limits.memory ≢ no_limit) }
+    ensures counts { InPass pass.old pass.new (λ k l. Counts k l result) }
 {
     if pass.is_empty() {
         return HANDLE;

@@ -6,7 +6,8 @@ ghost use Rattle.its_numbers.specs.Limits.{no_limit};
 ghost use Rattle.its_numbers.specs.Replies.{signal_out};
 ghost use Rattle.its_plain.specs.Doorbells.{route_of};
 ghost use Rattle.its_plain.specs.declared.call.Reply.TheVariants as reply;
-ghost use Rattle.its_shared.specs.Knowing.{beside};
+ghost use Rattle.its_shared.specs.Counting.{Counts};
+ghost use Rattle.its_shared.specs.Knowing.{setting};
 ghost use Rattle.its_shared.specs.Asked as asked;
 ghost use Rattle.its_shared.specs.Asked.{is_count};
 ghost use Rattle.its_shared.specs.Telling.{Tells, as_told, dma_told, is_done};
@@ -18,11 +19,13 @@ use its_plain::Bytes64;
 
 /// A device's message.
 pub fn signal(port: &mut Port, device: u32, event: u32, place: &mut u64, out: &mut SignalOut) -> u32
-    ensures beside { beside port.new ≡ beside port.old }
+    ensures setting { setting port.new ≡ setting port.old }
     ensures told { Tells is_done (as_told signal_out) (asked.signal device event) reply.Signal
         port.old port.new result place.old place.new out.old out.new }
+    ensures counts { Counts port.old port.new result }
 {
     let answer = port.signal(device, event);
+    port.count_signal(&answer);
     tell_signal(answer, place, out)
 }
 
@@ -35,7 +38,7 @@ pub fn dma(
     place: &mut u64,
     out: &mut DmaOut,
 ) -> u32
-    ensures beside { beside port.new ≡ beside port.old }
+    ensures setting { setting port.new ≡ setting port.old }
     ensures range { is_count bytes.now ≡ false → (result ≡ codes.range)
         × (port.new ≡ port.old) × (place.new ≡ place.old) × (out.new ≡ out.old) }
     ensures told { is_count bytes.now ≡ true → Tells is_done (as_told (dma_told (route_of
@@ -43,12 +46,32 @@ pub fn dma(
         bytes.now) reply_of
         port.old port.new result place.old place.new out.old out.new }
     ensures full { result ≡ codes.full → port.old.limits.memory ≢ no_limit }
+    ensures counts { Counts port.old port.new result }
 {
     if bytes.is_empty() || bytes.len() > 64 {
         return RANGE;
     }
-    let bytes = Bytes64::new(bytes);
+    dma_of(port, requester, address, Bytes64::new(bytes), place, out)
+}
+
+fn dma_of(
+    port: &mut Port,
+    requester: u32,
+    address: u64,
+    bytes: Bytes64,
+    place: &mut u64,
+    out: &mut DmaOut,
+) -> u32
+    ensures setting { setting port.new ≡ setting port.old }
+    ensures told { Tells is_done
+        (as_told (dma_told (route_of port.old.desc requester address bytes)))
+        (asked.dma port.old requester address bytes) reply_of
+        port.old port.new result place.old place.new out.old out.new }
+    ensures full { result ≡ codes.full → port.old.limits.memory ≢ no_limit }
+    ensures counts { Counts port.old port.new result }
+{
     let route = port.route(requester, address, &bytes);
     let answer = port.dma(requester, address, bytes);
+    port.count_dma(&answer);
     tell_dma(answer, route, place, out)
 }

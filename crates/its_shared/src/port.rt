@@ -1,9 +1,10 @@
-//! A pass with its share of the machine that it is of, and the limits that its calls keep to.
+//! A pass with its share of the machine that it is of, the limits that its calls keep to, and what
+//! is counted of them.
 ghost use Rattle.std.specs.Prelude.{◌≡◌};
 
 use device_port::requesters_are_apart;
 use its_migrate::share_owned;
-use its_numbers::GuestLimits;
+use its_numbers::{Counters, GuestLimits};
 use its_plain::Desc;
 use its_turns::{Machine, Pass};
 use owned_machine::Machine as Owned;
@@ -18,6 +19,8 @@ pub struct Port {
     pub(crate) machine: Arc<Machine, Global>,
     pub(crate) pass: Pass,
     pub(crate) limits: GuestLimits,
+    pub(crate) routes: u64,
+    pub(crate) counters: Counters,
 }
 
 impl Model for Port {
@@ -72,6 +75,8 @@ impl Port {
             machine,
             pass,
             limits,
+            routes: 0,
+            counters: Counters::new(),
         })
     }
 
@@ -82,8 +87,8 @@ impl Port {
         self.pass.number() == 0 && self.pass.made() < 1 << 32
     }
 
-    /// Another pass of the machine, split off the root, which keeps to the root's limits. None where
-    /// the machine has as many as an `Arc` can count.
+    /// Another pass of the machine, split off the root, which keeps to the root's limits and has
+    /// counted nothing. None where the machine has as many as an `Arc` can count.
     pub fn split(&mut self) -> Option<Port>
         requires { spec.can_split self.old ≡ true }
         ensures { MatchOption result (self.new ≡ self.old) (λ p. Splits self.old self.new p) }
@@ -96,6 +101,8 @@ impl Port {
             machine,
             pass,
             limits: self.limits,
+            routes: 0,
+            counters: Counters::new(),
         })
     }
 

@@ -4,8 +4,9 @@ ghost use Rattle.its_numbers.specs.Codes as codes;
 ghost use Rattle.its_plain.specs.declared.call.Reply.TheVariants as reply;
 ghost use Rattle.its_shared.specs.Asked as asked;
 ghost use Rattle.its_shared.specs.Asked.{has_register, is_size};
+ghost use Rattle.its_shared.specs.Counting.{Counts, KeepsRoutes};
 ghost use Rattle.its_shared.specs.Telling.{InPass, Tells, is_done, machine_of, nothing_told, ok};
-ghost use Rattle.its_shared.specs.Telling.{ok, value_told};
+ghost use Rattle.its_shared.specs.Telling.{ok, setting_of, value_told};
 
 use crate::pass::Pass;
 use crate::registers::{read_lpi_register, read_register, write_lpi_register, write_register};
@@ -46,12 +47,14 @@ pub extern "C" fn its_pass_write_register(
 ) -> u32
     ensures empty { pass.old.known ≡ None
         → (result ≡ codes.handle) × (place.new ≡ place.old) }
-    ensures kept { machine_of pass.new ≡ machine_of pass.old }
+    ensures kept { setting_of pass.new ≡ setting_of pass.old }
     ensures range { InPass pass.old pass.new (λ k l. is_size size ≡ false
         → (result ≡ codes.range) × (l ≡ k) × (place.new ≡ place.old)) }
     ensures told { InPass pass.old pass.new (λ k l. is_size size ≡ true
         → Tells is_done nothing_told (asked.write_register offset size value)
         ok k l result place.old place.new tt tt) }
+    ensures counts { InPass pass.old pass.new (λ k l. Counts k l result) }
+    ensures routes { InPass pass.old pass.new (λ k l. KeepsRoutes k l result) }
 {
     if pass.is_empty() {
         return HANDLE;

@@ -2,7 +2,8 @@
 ghost use Rattle.std.specs.Prelude.{◌≡◌, false, true};
 ghost use Rattle.its_numbers.specs.Codes as codes;
 ghost use Rattle.its_plain.specs.declared.call.Reply.TheVariants as reply;
-ghost use Rattle.its_shared.specs.Knowing.{beside};
+ghost use Rattle.its_shared.specs.Counting.{Counts, KeepsRoutes};
+ghost use Rattle.its_shared.specs.Knowing.{beside, setting};
 ghost use Rattle.its_shared.specs.Asked as asked;
 ghost use Rattle.its_shared.specs.Asked.{has_register};
 ghost use Rattle.its_shared.specs.Telling.{Tells, is_done, nothing_told, ok, value_told};
@@ -29,17 +30,30 @@ pub fn read_register(port: &mut Port, offset: u32, size: u32, place: &mut u64, o
 
 /// A write of 4 or 8 bytes of the translator's control frame.
 pub fn write_register(port: &mut Port, offset: u32, size: u32, value: u64, place: &mut u64) -> u32
-    ensures beside { beside port.new ≡ beside port.old }
+    ensures setting { setting port.new ≡ setting port.old }
     ensures range { asked.is_size size ≡ false → (result ≡ codes.range)
         × (port.new ≡ port.old) × (place.new ≡ place.old) }
     ensures told { asked.is_size size ≡ true → Tells is_done nothing_told (asked.write_register
         offset size value) ok
         port.old port.new result place.old place.new tt tt }
+    ensures counts { Counts port.old port.new result }
+    ensures routes { KeepsRoutes port.old port.new result }
 {
     if !is_size(size) {
         return RANGE;
     }
-    let answer = port.write_register(offset, size as u8, value);
+    written(port, offset, size as u8, value, place)
+}
+
+fn written(port: &mut Port, offset: u32, size: u8, value: u64, place: &mut u64) -> u32
+    ensures setting { setting port.new ≡ setting port.old }
+    ensures told { Tells is_done nothing_told (asked.write_register offset size value) ok
+        port.old port.new result place.old place.new tt tt }
+    ensures counts { Counts port.old port.new result }
+    ensures routes { KeepsRoutes port.old port.new result }
+{
+    let answer = port.write_register(offset, size, value);
+    port.count_write(offset, &answer);
     tell_unit(answer, place)
 }
 

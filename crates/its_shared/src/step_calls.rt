@@ -1,5 +1,6 @@
 //! The calls of a pass for commands, saves and guest memory.
 ghost use Rattle.std.specs.Prelude.{◌≡◌, ◌≢◌, false, true, None, length};
+ghost use Rattle.cmd_engine.specs.Concern.{BeforeLast};
 ghost use Rattle.its_numbers.specs.Codes as codes;
 ghost use Rattle.its_numbers.specs.Limits.{no_limit};
 ghost use Rattle.its_plain.specs.Answer.{save_reply};
@@ -7,11 +8,13 @@ ghost use Rattle.its_plain.specs.declared.call.Call.TheVariants as call;
 ghost use Rattle.its_plain.specs.declared.call.Reply.TheVariants as reply;
 ghost use Rattle.its_shared.specs.Asked as asked;
 ghost use Rattle.its_shared.specs.Asked.{is_count};
+ghost use Rattle.its_shared.specs.Concerns.{AreConcerned, UnconcernedStay};
+ghost use Rattle.its_shared.specs.Counting.{Counts, KeepsRoutes};
 ghost use Rattle.its_shared.specs.Limits.{StepsWithin};
 ghost use Rattle.its_shared.specs.Telling.{read_code};
 ghost use Rattle.its_shared.specs.Telling.{InPass, Tells, as_told, bytes_told, is_done, machine_of};
 ghost use Rattle.its_shared.specs.Telling.{nothing_told, save_code, save_told, step_told};
-ghost use Rattle.its_shared.specs.Telling.{write_code};
+ghost use Rattle.its_shared.specs.Telling.{setting_of, write_code};
 
 use crate::commands::{read_memory, save, step, write_memory};
 use crate::pass::Pass;
@@ -23,10 +26,17 @@ use std::alloc::Global;
 pub extern "C" fn its_pass_step(pass: &mut Pass, place: &mut u64, out: &mut StepOut) -> u32
     ensures empty { pass.old.known ≡ None
         → (result ≡ codes.handle) × (place.new ≡ place.old) × (out.new ≡ out.old) }
-    ensures kept { machine_of pass.new ≡ machine_of pass.old }
-    ensures told { InPass pass.old pass.new (λ k l. Tells is_done (as_told step_told) asked.step
-        reply.Step k l result place.old place.new out.old out.new) }
+    ensures kept { setting_of pass.new ≡ setting_of pass.old }
+    ensures told { InPass pass.old pass.new (λ k l. Tells is_done
+        (as_told (step_told out.new.concerned)) asked.step reply.Step
+        k l result place.old place.new out.old out.new) }
+    ensures unconcerned { InPass pass.old pass.new (λ k l. result ≡ codes.done → BeforeLast
+        (UnconcernedStay out.new.concerned) k.view.setup.start l.view.seen) }
+    ensures concerned { InPass pass.old pass.new (λ k l. result ≡ codes.done → BeforeLast
+        (AreConcerned out.new.concerned) k.view.setup.start l.view.seen) }
     ensures within { InPass pass.old pass.new (λ k l. StepsWithin k l result) }
+    ensures counts { InPass pass.old pass.new (λ k l. Counts k l result) }
+    ensures routes { InPass pass.old pass.new (λ k l. KeepsRoutes k l result) }
 {
     if pass.is_empty() {
         return HANDLE;
@@ -47,6 +57,8 @@ pub extern "C" fn its_pass_save(
     ensures kept { machine_of pass.new ≡ machine_of pass.old }
     ensures told { InPass pass.old pass.new (λ k l. Tells save_code save_told call.Save
         save_reply k l result place.old place.new out.old out.new) }
+    ensures full { InPass pass.old pass.new (λ k l.
+        result ≡ codes.full → k.limits.memory ≢ no_limit) }
 {
     if pass.is_empty() {
         return HANDLE;

@@ -9,9 +9,9 @@ use crate::answer::Answer;
 use device_port::Dma;
 use its_numbers::{
     AckOut, BUSY, DONE, DmaOut, FAULT, FULL, NO_MEMORY, OUTSIDE, SPENT, SaveFaultOut, SignalOut,
-    StepOut, ack_out, dma_out, save_fault_out, signal_out, step_out,
+    ack_out, dma_out, save_fault_out, signal_out,
 };
-use its_plain::{Ack, Reply, Route, SaveFault, Signal, StepReply};
+use its_plain::{Ack, Reply, Route, SaveFault, Signal};
 
 /// A message's.
 pub fn tell_signal(answer: Answer<Signal>, place: &mut u64, out: &mut SignalOut) -> u32
@@ -118,25 +118,6 @@ pub fn tell_unit(answer: Answer<()>, place: &mut u64) -> u32
     }
 }
 
-/// A step's.
-pub fn tell_step(answer: Answer<StepReply>, place: &mut u64, out: &mut StepOut) -> u32
-    ensures code { result ≡ spec.code_of spec.is_done answer }
-    ensures place { place.new ≡ spec.place_after answer place.old }
-    ensures out { out.new ≡ spec.out_after (spec.as_told spec.step_told) answer out.old }
-{
-    match answer {
-        Answer::Made(placed) => {
-            *place = placed.place;
-            *out = step_out(placed.reply, concerned(placed.reply));
-            DONE
-        }
-        Answer::Busy => BUSY,
-        Answer::Spent => SPENT,
-        Answer::NoMemory => NO_MEMORY,
-        Answer::Full => FULL,
-    }
-}
-
 /// A write of guest memory's.
 pub fn tell_write(answer: Answer<Reply>, place: &mut u64) -> u32
     ensures code { result ≡ spec.code_of spec.write_code answer }
@@ -206,17 +187,6 @@ pub fn tell_save(
         Answer::Spent => SPENT,
         Answer::NoMemory => NO_MEMORY,
         Answer::Full => FULL,
-    }
-}
-
-// Every processor is named where a command ran, and none where none did.
-fn concerned(step: StepReply) -> [u64; 8]
-    ensures { result ≡ spec.concerned_by step }
-{
-    if let StepReply::Ran(_) = step {
-        [u64::MAX; 8]
-    } else {
-        [0; 8]
     }
 }
 
