@@ -3,7 +3,7 @@ import struct
 import time
 
 import saving
-from checks import need
+from checks import maps, need
 from vm import PATIENCE, RAM, Vm
 
 GITS, GICR, ECAM = 0x08080000, 0x080A0000, 0x4010000000
@@ -128,39 +128,64 @@ def brief_commands(work, name, library):
     return queue_of(machine, [command(12, 8 << 32, i) for i in range(DEEP - 1)])
 
 
+def addable(count):
+    """What QEMU has to be told of pieces of memory of 1 MiB, to be added while it runs."""
+    return [word for i in range(count) for word in (
+        "-object", f"memory-backend-ram,id=more{i},size=1M", "-device",
+        f"ivshmem-plain,memdev=more{i},master=on,addr={i + 4:#x}")]
+
+
+def add(vm, i, place):
+    """One of these pieces comes to lie there."""
+    config = ECAM + ((i + 4) << 15)
+    vm.of_bus(f"writel {config + 0x18:#x} {place & 0xFFFFFFFF:#x}")
+    vm.of_bus(f"writel {config + 0x1C:#x} {place >> 32:#x}")
+    vm.of_bus(f"writel {config + 4:#x} 2")
+
+
+def windows(vm):
+    """How many there are, how many were added while it ran, and how many machines were made for them."""
+    return vm.told("windows"), vm.told("added while it ran"), vm.told("machines anew")
+
+
 def more_memory(work, name, library):
     """memory added while it runs, in 20 places, and tables there that are saved"""
     if not library:
         return None, "not run: it has no windows"
-    more = []
-    for i in range(20):
-        more += ["-object", f"memory-backend-ram,id=more{i},size=1M", "-device",
-                 f"ivshmem-plain,memdev=more{i},master=on,addr={i + 4:#x}"]
-    machine = Bare(work, name, library, more)
+    machine = Bare(work, name, library, addable(20))
     vm = machine.vm
     places = [0x8000000000 + (i << 30) for i in range(20)]
     for i, place in enumerate(places):
-        config = ECAM + ((i + 4) << 15)
-        vm.of_bus(f"writel {config + 0x18:#x} {place & 0xFFFFFFFF:#x}")
-        vm.of_bus(f"writel {config + 0x1C:#x} {place >> 32:#x}")
-        vm.of_bus(f"writel {config + 4:#x} 2")
+        add(vm, i, place)
     for i, place in enumerate(places):
         machine.run([command(8, (i + 1) << 32, 4, VALID | place), command(10, (i + 1) << 32, (8192 + i) << 32 | 3)])
+    machine.run([command(8, (100 + i) << 32, 0, VALID | TABLE + (i << 8)) for i in range(80)])
+    need("mapped: 100 devices, 20 events, 1 collections" in vm.info() and "and 36 more devices" in vm.info(), vm.info())
     need(vm.told("refused") == 0, vm.info())
     vm.qmp("stop")
     saved = [vm.load(place + 24) for place in places]
     need(saved == [8192 + i << 16 for i in range(20)], f"saved: {[hex(it) for it in saved]}")
-    need(vm.told("windows") == 16, vm.info())
-    return vm, f"{vm.told('while it ran')} machines with more windows, 16 windows in the end"
+    need(windows(vm)[0] == 16, vm.info())
+    return vm, "{} windows in the end, {} added, {} machines anew".format(*windows(vm))
 
 
 def overlap(work, name, library):
     """tables laid over one another: not saved, and told"""
     if not library:
         return None, "not run: it saves no tables"
-    machine = Bare(work, name, library)
+    machine = Bare(work, name, library, addable(3))
     vm = machine.vm
     machine.run([command(8, 1 << 32, 4, VALID | TABLE), command(8, 2 << 32, 4, VALID | TABLE)])
+    machine.run([command(10, 9 << 32, 8192 << 32)])
+    machine.signal(5)               # both of a device that isn't mapped
+    places = [0x8000000000 + (i << 20) for i in range(3)]
+    had = windows(vm)[0]
+    for i in (0, 1):                # the second begins where the first ends
+        add(vm, i, places[i])
+    need(windows(vm) == (had + 2, 2, 0), vm.info())
+    tables = [(3, places[0]), (4, places[1])]
+    machine.run([command(8, device << 32, 4, VALID | place) for device, place in tables])
+    machine.run([command(10, device << 32, (8192 + device) << 32 | 3) for device, _ in tables])
     vm.qmp("migrate", uri="exec:cat >/dev/null")
     end = time.time() + 60 * PATIENCE
     while vm.qmp("query-migrate").get("status") not in ("failed", "completed"):
@@ -168,8 +193,17 @@ def overlap(work, name, library):
         time.sleep(0.05)
     answer = vm.qmp("query-migrate")
     need("tables not saved: overlap" in answer.get("error-desc", ""), f"the migration: {answer}")
+    told = maps(vm, 4, 2, 1)
+    need("last save: " in told and f"device 0x3: 5 EventID bits, table at {places[0]:#x}, 1 events" in told, told)
     machine.run([command(8, 2 << 32, 0, 0)])
-    need("can't be saved" not in vm.info(), vm.info())
+    add(vm, 2, places[2])           # now the window of all three can be one
+    need(windows(vm) == (had + 1, 2, 1), vm.info())
+    tables += [(5, places[2] - (256 << 10))]
+    machine.run([command(8, 5 << 32, 15, VALID | tables[2][1]), command(10, 5 << 32, 8197 << 32 | 3)])
+    vm.qmp("stop")
+    need([vm.load(place + 24) for _, place in tables] == [8192 + device << 16 for device, _ in tables], vm.info())
+    told = maps(vm, 4, 3, 1)
+    need("no-device: 1 refused" in told and "no-device 1," in told, told)
     return vm, answer["error-desc"]
 
 

@@ -1,4 +1,5 @@
 """What each scenario looks at."""
+import re
 import time
 
 from vm import PATIENCE
@@ -42,6 +43,17 @@ def quiet(vm):
     """Nothing that a translator wrote to QEMU's log: a dropped signal, a refused command."""
     errors = vm.guest_errors()
     need(not errors, f"{len(errors)} guest errors: {errors[:3]}")
+
+
+def maps(vm, *counts):
+    """What `info pic` tells of maps, line by line, is what it tells in all, and as many as these. What it tells."""
+    told = vm.info()
+    all_of = [int(it) for it in re.search(r"mapped: (\d+) devices, (\d+) events, (\d+) collections", told).groups()]
+    events = [int(it) for it in re.findall(r"    device 0x.* (\d+) events", told)]
+    collections = re.findall(r"    collection \d+: processor \d+", told)
+    need(all_of == [len(events), sum(events), len(collections)], told)
+    need(not counts or all_of == list(counts), told)
+    return told
 
 
 def summary(vm, more=""):

@@ -3,7 +3,7 @@ import re
 import time
 
 from bare import TABLE, VALID, Bare, command
-from checks import LATENCY, alive, loaded, need, quiet, summary
+from checks import LATENCY, alive, loaded, maps, need, quiet, summary
 from saving import moved_to
 from vm import FIRMWARE, PATIENCE, Vm
 
@@ -56,6 +56,7 @@ def firmware(work, name, library):
     vm, told = moved_to(vm, work, name + "-1", more=dimm_words(base))
     if library:
         told += f", {tables_in(before, base)} tables in that memory"
+        maps(vm)
     vm.run("unload")
     alive(vm, 64)
     vm.run("move 8; work 96")

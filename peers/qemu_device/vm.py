@@ -164,7 +164,7 @@ class Vm:
 
     def info(self):
         """What the device tells of itself, without its name."""
-        return self.qmp("human-monitor-command", **{"command-line": "info pic"}).split(DEVICE + ":")[-1]
+        return self.qmp("human-monitor-command", **{"command-line": "info pic"}).split(DEVICE + ":", 1)[-1]
 
     def told(self, pattern):
         """A number in what the device tells."""

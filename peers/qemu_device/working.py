@@ -2,7 +2,7 @@
 import os
 import time
 
-from checks import LATENCY, alive, loaded, need, quiet, summary
+from checks import LATENCY, alive, loaded, maps, need, quiet, summary
 from saving import moved_to
 from vm import PATIENCE, Vm
 
@@ -14,6 +14,8 @@ def boot(work, name, library):
     alive(vm, 0)
     used = [sum(1 for counts in vm.interrupts().values() if counts[cpu]) for cpu in range(4)]
     need(all(used), f"a processor had none: {used}")
+    if library:
+        maps(vm)
     quiet(vm)
     return vm, summary(vm, f", {seconds:.0f} s, Linux {linux.split()[0]}")
 

@@ -30,7 +30,6 @@ enum {
     TABLE_PAGE = 65536,
     TABLE_PAGES = 8,               /* that count of a table, at 16 DeviceID bits */
     REFUSALS = 8,                  /* that are remembered */
-    CAUSES = ITS_CAUSE_LPIS_OFF + 1,
 };
 
 typedef struct Refusal {
@@ -39,15 +38,16 @@ typedef struct Refusal {
     uint32_t reason;
 } Refusal;
 
+/* What the library doesn't count, from the last reset on. */
 typedef struct Counters {
-    uint64_t signals[CAUSES];      /* the first: delivered */
     uint64_t acknowledged;
     uint64_t ran;
-    uint64_t refused;
+    uint64_t remembered;           /* commands that were refused, the last of them in `refusals` */
     uint64_t slices;
     uint64_t saves;
     uint64_t not_saved;
-    uint64_t widened;              /* new machines for memory that was added */
+    uint64_t added;                /* windows of the machine, while it ran */
+    uint64_t widened;              /* new machines for windows that grew */
     uint64_t failures;             /* answers that no guest brings about */
     int64_t longest_write;         /* of the control frame, in ns */
     int64_t longest_slice;         /* of a queue, in ns */
@@ -58,17 +58,20 @@ struct BacciledruIts {
     GICv3State *gic;
     struct its_handle *handle;
     bool made;                     /* whether the handle has a machine: from the first reset on */
-    struct its_window_in windows[WINDOWS + 1];
+    struct its_window_in windows[WINDOWS + 1]; /* of all RAM that there was, for the next machine */
     size_t windows_len;
-    bool wider;                    /* than those of the machine */
+    struct its_window_in had[WINDOWS];         /* those of the machine, in no order */
+    size_t had_len;
+    bool wider;                    /* `windows` has more than these */
     MemoryListener listener;
     VMChangeStateEntry *changes;
     uint64_t mapped;               /* events at most: those that are unmapped count on */
     QEMUBH *queue;                 /* takes commands, a slice at a time */
     QEMUTimer *again;              /* where the host had no memory for one */
     Error *unsaved;                /* why the tables in guest memory aren't the present ones */
+    struct its_counters before;    /* what machines before this one counted since the last reset */
     Counters counters;
-    Refusal refusals[REFUSALS];    /* the number `counters.refused - 1`, modulo REFUSALS, is the last */
+    Refusal refusals[REFUSALS];    /* number `counters.remembered - 1`, modulo REFUSALS, is the last */
 };
 
 typedef enum Source { FROM_NOTHING, FROM_GUEST, FROM_LIBRARY } Source;
@@ -76,6 +79,7 @@ typedef enum Source { FROM_NOTHING, FROM_GUEST, FROM_LIBRARY } Source;
 /* calls.c */
 char *bacciledru_word(uint32_t list, uint32_t number);
 bool bacciledru_done(BacciledruIts *s, const char *call, uint32_t answer);
+struct its_counters bacciledru_counted(BacciledruIts *s);
 uint64_t bacciledru_register(BacciledruIts *s, uint32_t offset, uint32_t size);
 void bacciledru_keep_registers(BacciledruIts *s);
 void bacciledru_keep_lpi_registers(BacciledruIts *s, int vcpu);
@@ -101,11 +105,13 @@ void bacciledru_walk(BacciledruIts *s, Source source, TableAt *at, void *opaque)
 
 /* machine.c */
 bool bacciledru_make(BacciledruIts *s, Source source, Error **errp);
+
+/* windows.c */
+void bacciledru_note_window(BacciledruIts *s, uint64_t base, uint64_t end);
 void bacciledru_widen(BacciledruIts *s);
 
 /* save.c */
 bool bacciledru_save_inside(BacciledruIts *s, Error **errp);
-void bacciledru_forget_written(BacciledruIts *s);
 void bacciledru_save(BacciledruIts *s);
 int bacciledru_pre_save(void *opaque);
 int bacciledru_post_load(void *opaque, int version);

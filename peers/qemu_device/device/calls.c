@@ -32,6 +32,20 @@ bool bacciledru_done(BacciledruIts *s, const char *call, uint32_t answer)
     return false;
 }
 
+/* What was counted since the last reset: a machine counts from 0 on, also one in another's place. */
+struct its_counters bacciledru_counted(BacciledruIts *s)
+{
+    struct its_counters all = { 0 };
+    uint64_t *sums = (uint64_t *)&all;
+    const uint64_t *before = (const uint64_t *)&s->before;
+
+    bacciledru_done(s, "its_counters", its_counters(s->handle, &all));
+    for (size_t i = 0; i < sizeof(all) / sizeof(*sums); i++) {
+        sums[i] += before[i];
+    }
+    return all;
+}
+
 uint64_t bacciledru_register(BacciledruIts *s, uint32_t offset, uint32_t size)
 {
     uint64_t value = 0;

@@ -69,6 +69,7 @@ static void bacciledru_reset(DeviceState *dev)
     if (!bacciledru_make(s, FROM_NOTHING, &error)) {
         error_report_err(error);
     }
+    memset(&s->before, 0, sizeof(s->before));
 }
 
 static void bacciledru_state(void *opaque, bool running, RunState state)

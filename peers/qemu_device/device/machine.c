@@ -1,5 +1,5 @@
 /*
- * The library's machine: made at a reset, from a state that was loaded, or anew with more windows.
+ * The library's machine: made at a reset, from a state that was loaded, or anew where windows grew.
  *
  * SPDX-License-Identifier: MIT OR Apache-2.0
  */
@@ -99,11 +99,14 @@ static bool replace(BacciledruIts *s, Fills *fills, Error **errp)
         return false;
     }
     if (s->made) {
+        s->before = bacciledru_counted(s);
         bacciledru_done(s, "its_free", its_free(s->handle));
     }
     g_free(s->handle);
     s->handle = handle;
     s->made = true;
+    memcpy(s->had, s->windows, s->windows_len * sizeof(*s->windows));
+    s->had_len = s->windows_len;
     return true;
 }
 
@@ -128,20 +131,4 @@ bool bacciledru_make(BacciledruIts *s, Source source, Error **errp)
         bacciledru_show_first(s, i);
     }
     return true;
-}
-
-/* Memory was added, and the machine goes on with windows there: saved, and made anew in place. */
-void bacciledru_widen(BacciledruIts *s)
-{
-    Error *error = NULL;
-
-    if (bacciledru_save_inside(s, &error)) {
-        bacciledru_keep_registers(s);
-        if (bacciledru_make(s, FROM_LIBRARY, &error)) {
-            s->counters.widened++;
-        }
-    }
-    if (error) {
-        warn_reportf_err(error, "tables can't lie in memory that was added now: ");
-    }
 }

@@ -1,5 +1,5 @@
 /*
- * Guest memory: what of it is RAM, which windows the library has there, and bytes copied in and out.
+ * Guest memory: what of it is RAM, and bytes copied in and out.
  *
  * SPDX-License-Identifier: MIT OR Apache-2.0
  */
@@ -68,59 +68,13 @@ bool bacciledru_copy_out(BacciledruIts *s, uint64_t address, uint64_t length)
     return bacciledru_done(s, "its_forget", its_forget(s->handle, address, length));
 }
 
-/* Of more than 16 windows the two with the least between them become one. */
-static void join_closest(BacciledruIts *s)
-{
-    struct its_window_in *windows = s->windows;
-    size_t least = 0;
-    uint64_t gap, narrowest = UINT64_MAX;
-
-    for (size_t i = 0; i + 1 < s->windows_len; i++) {
-        gap = windows[i + 1].base - windows[i].base - windows[i].length;
-        if (gap < narrowest) {
-            narrowest = gap;
-            least = i;
-        }
-    }
-    windows[least].length = windows[least + 1].base + windows[least + 1].length -
-                            windows[least].base;
-    memmove(&windows[least + 1], &windows[least + 2],
-            (s->windows_len - least - 2) * sizeof(*windows));
-    s->windows_len--;
-}
-
-/* Windows stay in order and apart. They only grow: where memory went there is no RAM to be read. */
-static void add_window(BacciledruIts *s, uint64_t base, uint64_t end)
-{
-    struct its_window_in *windows = s->windows;
-    size_t from = 0, to;
-
-    while (from < s->windows_len && windows[from].base + windows[from].length < base) {
-        from++;
-    }
-    for (to = from; to < s->windows_len && windows[to].base <= end; to++) {
-        if (windows[to].base <= base && end <= windows[to].base + windows[to].length) {
-            return;
-        }
-        base = MIN(base, windows[to].base);
-        end = MAX(end, windows[to].base + windows[to].length);
-    }
-    memmove(&windows[from + 1], &windows[to], (s->windows_len - to) * sizeof(*windows));
-    windows[from] = (struct its_window_in) { base, end - base };
-    s->windows_len += 1 + from - to;
-    s->wider = true;
-    if (s->windows_len > WINDOWS) {
-        join_closest(s);
-    }
-}
-
 static void region_added(MemoryListener *listener, MemoryRegionSection *section)
 {
     BacciledruIts *s = container_of(listener, BacciledruIts, listener);
     uint64_t base = section->offset_within_address_space;
 
     if (is_usable(section->mr)) {
-        add_window(s, base, base + int128_get64(section->size));
+        bacciledru_note_window(s, base, base + int128_get64(section->size));
     }
 }
 

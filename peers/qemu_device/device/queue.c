@@ -41,7 +41,7 @@ static void note(BacciledruIts *s, const struct its_step_out *out, uint64_t plac
     if (out->outcome != ITS_OUTCOME_REFUSED) {
         return;
     }
-    it = &s->refusals[s->counters.refused++ % REFUSALS];
+    it = &s->refusals[s->counters.remembered++ % REFUSALS];
     it->place = place;
     it->words[0] = ldq_le_p(command);
     it->words[1] = ldq_le_p(command + 8);
@@ -177,7 +177,6 @@ int bacciledru_send_msi(GICv3ITSState *its, uint32_t event, uint16_t device)
         return -EIO;
     }
     trace_bacciledru_signal(device, event, out.cause, out.vcpu, out.intid);
-    s->counters.signals[MIN(out.cause, CAUSES - 1)]++;
     if (out.cause != ITS_CAUSE_DELIVERED) {
         cause = bacciledru_word(ITS_LIST_CAUSES, out.cause);
         qemu_log_mask(LOG_GUEST_ERROR, TYPE_BACCILEDRU_ITS ": event %u of 0x%x dropped: %s\n",

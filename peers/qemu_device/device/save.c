@@ -66,17 +66,6 @@ static struct its_stretch_out *written(BacciledruIts *s, uint64_t *count)
     return tables;
 }
 
-/* After a save that nobody copies out. */
-void bacciledru_forget_written(BacciledruIts *s)
-{
-    uint64_t count;
-    g_autofree struct its_stretch_out *tables = written(s, &count);
-
-    for (uint64_t i = 0; i < count; i++) {
-        its_forget(s->handle, tables[i].address, tables[i].length);
-    }
-}
-
 /* All tables to the guest's memory, or none. */
 static bool write_tables(BacciledruIts *s, Error **errp)
 {
