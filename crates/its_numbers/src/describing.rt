@@ -1,5 +1,6 @@
 //! The description that numbers stand for.
 ghost use Rattle.std.specs.Prelude.{◌≡◌, true, IfOk, length, map};
+ghost use Rattle.std.specs.List.{list_all};
 ghost use Rattle.its_plain.specs.Machine.{IsDescription, HasTablesFor};
 ghost use Rattle.its_plain.specs.Sound.{IsShape};
 ghost use Rattle.its_numbers.specs.Descriptions as spec;
@@ -49,11 +50,15 @@ fn translators_in_range(translators: &[TranslatorIn]) -> bool
     ensures { result ≡ spec.translators_in_range translators.now }
 {
     let count = translators.len();
-    1 <= count
-        && count <= 2
-        && translators
-            .iter()
-            .all(|translator| translator.has_frames < 2)
+    1 <= count && count <= 2 && all_in_range(translators)
+}
+
+fn all_in_range(translators: &[TranslatorIn]) -> bool
+    ensures { result ≡ list_all spec.translator_in_range translators.now }
+{
+    translators
+        .iter()
+        .all(|translator| translator.has_frames < 2)
 }
 
 fn between(least: u32, most: u32, number: u32) -> bool
