@@ -13,7 +13,7 @@ use its_numbers::{
 use std::alloc::Global;
 
 // Its frames stand here.
-const fn framed(frames: u64) -> TranslatorIn {
+fn framed(frames: u64) -> TranslatorIn {
     TranslatorIn {
         has_frames: 1,
         frames,
@@ -23,20 +23,34 @@ const fn framed(frames: u64) -> TranslatorIn {
 
 // Where the entries of device 7 and of collection 0 are, and that of event 2, of both.
 const ENTRIES: [FillIn; 6] = [
-    entry(0x8000_0038),
-    entry(0x8001_0000),
-    entry(0x800c_0010),
-    entry(0x8008_0038),
-    entry(0x8009_0000),
-    entry(0x800d_0010),
+    FillIn {
+        address: 0x8000_0038,
+        length: 8,
+    },
+    FillIn {
+        address: 0x8001_0000,
+        length: 8,
+    },
+    FillIn {
+        address: 0x800c_0010,
+        length: 8,
+    },
+    FillIn {
+        address: 0x8008_0038,
+        length: 8,
+    },
+    FillIn {
+        address: 0x8009_0000,
+        length: 8,
+    },
+    FillIn {
+        address: 0x800d_0010,
+        length: 8,
+    },
 ];
 
-const fn entry(address: u64) -> FillIn {
-    FillIn { address, length: 8 }
-}
-
 // In the format of KVM's tables: what both drivers map, but for the processors.
-const fn saved(first: u8, second: u8) -> [u8; 48] {
+fn saved(first: u8, second: u8) -> [u8; 48] {
     [
         0x03, 0x80, 0x01, 0x10, 0, 0, 0, 0x80, 0, 0, first, 0, 0, 0, 0, 0x80, 0, 0, 0, 0x20, 0, 0,
         0, 0, 0x03, 0xa0, 0x01, 0x10, 0, 0, 0, 0x80, 0, 0, second, 0, 0, 0, 0, 0x80, 0, 0, 0x01,
@@ -47,22 +61,24 @@ const fn saved(first: u8, second: u8) -> [u8; 48] {
 // The registers of both, as they are saved.
 const GIVEN: [TranslatorIn; 2] = [
     TranslatorIn {
+        has_frames: 0,
+        frames: 0,
         ctlr: 1,
         cbaser: 0x8000_0000_8002_0000,
         creadr: 0x60,
         cwriter: 0x60,
         baser0: 0x8107_0000_8000_0200,
         baser1: 0x8407_0000_8001_0200,
-        ..TRANSLATORS[0]
     },
     TranslatorIn {
+        has_frames: 0,
+        frames: 0,
         ctlr: 1,
         cbaser: 0x8000_0000_800a_0000,
         creadr: 0x60,
         cwriter: 0x60,
         baser0: 0x8107_0000_8008_0200,
         baser1: 0x8407_0000_8009_0200,
-        ..TRANSLATORS[0]
     },
 ];
 
