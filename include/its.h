@@ -1,10 +1,11 @@
 /*
  * The Interrupt Translation Service of an Arm GICv3, for a machine monitor.
  *
- * A handle has one machine: a translator, the LPI side of 1 to 512 redistributors, and its own copy
- * of the guest memory that they use. The library starts no thread, takes no lock and calls nothing
- * but the three functions of a heap (docs/LIBRARY.md), memcpy, memmove and memset. Calls with one
- * handle are made one at a time; two handles have nothing in common.
+ * A handle has one machine: one translator or two, the LPI side of 1 to 512 redistributors, and its own
+ * copy of the guest memory that they use. A call that asks a translator takes its number, 0 or 1, as
+ * `translator`, and answers ITS_RANGE where the machine has none of that number. The library starts no
+ * thread, takes no lock and calls nothing but the three functions of a heap (docs/LIBRARY.md), memcpy,
+ * memmove and memset. Calls with one handle are made one at a time; two handles have nothing in common.
  *
  * Beside it there is a machine that threads share, by passes, in a library of its own: see its_share.
  *
@@ -32,7 +33,7 @@ extern "C" {
 #endif
 
 /* Counts the changes of this file after which a caller is built anew. */
-#define ITS_VERSION 6
+#define ITS_VERSION 7
 
 /* What a call answers. */
 enum its_answer {
@@ -49,7 +50,7 @@ enum its_answer {
 
 /*
  * Why a description makes no machine. 1 to 4, 14 and 15 are of the description, the others of what is
- * restored.
+ * restored of `translator`.
  */
 enum its_make_fault_kind {
     ITS_MAKE_WINDOWS = 1,            /* no memory can have the windows */
@@ -65,21 +66,22 @@ enum its_make_fault_kind {
     ITS_MAKE_NOT_VALID = 11,         /* the register at `register_offset` can't stand beside the others */
     ITS_MAKE_BAD_COLLECTION = 12,    /* `collection` has no place in the table */
     ITS_MAKE_BAD_REDIST = 13,        /* a table of virtual processor `vcpu` doesn't lie in one window */
-    ITS_MAKE_ITS_BASE = 14,          /* the frames end past 2^52, or share a byte with a window */
+    ITS_MAKE_ITS_BASE = 14,          /* the frames of `translator` end past 2^52, or share a byte with a
+                                        window or with the other frames */
     ITS_MAKE_REQUESTER = 15          /* element `number` of requesters, from 0: `first` is above `last`, a
                                         device is past 2^32 - 1, or one is in an earlier element */
 };
 
 /* Why a state can't be saved. */
 enum its_save_fault_kind {
-    ITS_SAVE_NO_PLACE = 1, /* the level-1 entry of `device` isn't valid */
+    ITS_SAVE_NO_PLACE = 1, /* the level-1 entry of `device` of `translator` isn't valid */
     ITS_SAVE_OUTSIDE = 2,  /* `region` doesn't lie in one window */
     ITS_SAVE_OVERLAP = 3   /* `region` and `other_region` share a byte, and one of them is written */
 };
 
 /* A stretch of guest memory that a save looks at. */
 enum its_region {
-    ITS_REGION_DEVICES = 1,     /* the flat device table */
+    ITS_REGION_DEVICES = 1,     /* the flat device table of a translator, as 2 to 5 and 9 are a translator's */
     ITS_REGION_LEVEL1 = 2,      /* the first level of a device table */
     ITS_REGION_PAGE = 3,        /* the page of level-1 entry `number` */
     ITS_REGION_COLLECTIONS = 4, /* the collection table */
@@ -166,20 +168,27 @@ struct its_description_in {
     uint32_t lpi_bits;     /* of the INTID of an LPI, 14 to 20 */
     uint32_t profile;      /* a MAPC of a mapped collection: 1 pending LPIs stay, 2 they move */
     uint32_t programmed;   /* 0 LPIs are on at the tables given, 1 the guest programs GICR_* */
-    uint32_t restored;     /* 0 as at reset, 1 from guest memory and the registers that follow, 2 so, of tables that KVM saved */
+    uint32_t restored;     /* 0 as at reset, 1 from guest memory and the translators' registers, 2 so, of KVM's tables */
     uint32_t linux_guest;  /* 1 with what a Linux guest counts on (docs/FORMATS.md, `linux`), 0 not */
-    uint32_t has_frames;   /* 1 devices write by address (its_dma) and frames says where, 0 not */
     uint64_t config;       /* address of the LPI configuration table, where programmed is 0 */
-    uint64_t frames;       /* address of the translator's two frames of 64 KiB, where has_frames is 1 */
-    uint64_t ctlr;         /* GITS_CTLR to restore, of which bit 0 counts */
-    uint64_t cbaser;       /* GITS_CBASER */
-    uint64_t creadr;       /* GITS_CREADR */
-    uint64_t cwriter;      /* GITS_CWRITER */
-    uint64_t baser0;       /* GITS_BASER0 */
-    uint64_t baser1;       /* GITS_BASER1 */
-    uint64_t event_limit;  /* events that may be mapped; UINT64_MAX: as many as there are */
+    uint64_t event_limit;  /* events that each translator may map; UINT64_MAX: as many as there are */
     uint64_t device_limit; /* devices, so */
     uint64_t memory_limit; /* bytes of guest memory that may be held, in pages of 65,536, so */
+};
+
+/*
+ * A translator of a machine: one or two of them, whose numbers are 0 and 1. They share guest memory and
+ * the redistributors, and nothing else: each has registers, tables, a command queue and maps of its own.
+ */
+struct its_translator_in {
+    uint32_t has_frames; /* 1 devices write to it by address (its_dma) and frames says where, 0 not */
+    uint64_t frames;     /* address of its two frames of 64 KiB, where has_frames is 1 */
+    uint64_t ctlr;       /* GITS_CTLR to restore, of which bit 0 counts */
+    uint64_t cbaser;     /* GITS_CBASER */
+    uint64_t creadr;     /* GITS_CREADR */
+    uint64_t cwriter;    /* GITS_CWRITER */
+    uint64_t baser0;     /* GITS_BASER0 */
+    uint64_t baser1;     /* GITS_BASER1 */
 };
 
 /*
@@ -217,6 +226,7 @@ struct its_requesters_in {
  */
 struct its_make_fault_out {
     uint32_t kind; /* of enum its_make_fault_kind */
+    uint32_t translator; /* of what is restored, and of kind ITS_MAKE_ITS_BASE */
     uint32_t vcpu;
     uint32_t device;
     uint32_t event;
@@ -236,11 +246,13 @@ struct its_make_fault_out {
  */
 struct its_save_fault_out {
     uint32_t kind; /* of enum its_save_fault_kind */
+    uint32_t translator; /* of kind ITS_SAVE_NO_PLACE, and of a region that is a translator's */
     uint32_t device;
     uint32_t region; /* of enum its_region */
     uint32_t number;
     uint32_t other_region;
     uint32_t other_number;
+    uint32_t other_translator; /* of other_region, so */
 };
 
 /* Where a signal went. */
@@ -336,7 +348,7 @@ struct its_refused_counts {
     uint64_t lpis_off;
 };
 
-/* What is counted of the calls of a machine, or of a pass, from its making on. */
+/* What is counted of the calls of a machine, or of a pass, from its making on, of all translators together. */
 struct its_counters {
     struct its_signal_counts signals; /* its_signal and its_dma of a message */
     struct its_refused_counts refused; /* its_step and its_step_with */
@@ -351,15 +363,17 @@ uint32_t its_text(uint32_t list, uint32_t number, uint8_t *buffer, size_t buffer
                   uint64_t *count);
 
 /*
- * Makes a machine for a handle that has none. Guest memory is the windows, zero but for the fills.
- * `pending` has the address of each virtual processor's pending table, where `programmed` is 0;
- * `redistributors` has the registers of each, where it is 1, which count where `restored` is 1. The
- * lengths of the fills are together bytes_len. A machine that was saved comes up again with the
- * memory and the registers that it had. ITS_FULL where more events or devices are restored than the
- * limits say, or the fills take more pages: the memory that they took is free again, and the handle has
- * none. ITS_NO_MEMORY, ITS_RANGE, ITS_FAULT with `fault`, ITS_HANDLE.
+ * Makes a machine for a handle that has none, with the translators of a list of one or two: ITS_RANGE at
+ * another length. Guest memory is the windows, zero but for the fills. `pending` has the address of each
+ * virtual processor's pending table, where `programmed` is 0; `redistributors` has the registers of each,
+ * where it is 1, which count where `restored` is 1. The lengths of the fills are together bytes_len. A
+ * machine that was saved comes up again with the memory and the registers that it had. ITS_FULL where more
+ * events or devices of a translator are restored than the limits say, or the fills take more pages: the
+ * memory that they took is free again, and the handle has none. ITS_NO_MEMORY, ITS_RANGE, ITS_FAULT with
+ * `fault`, ITS_HANDLE.
  */
 uint32_t its_new(struct its_handle *handle, const struct its_description_in *numbers,
+                 const struct its_translator_in *translators, size_t translators_len,
                  const struct its_window_in *windows, size_t windows_len, const uint64_t *pending,
                  size_t pending_len, const struct its_redistributor_in *redistributors,
                  size_t redistributors_len, const struct its_requesters_in *requesters,
@@ -370,15 +384,16 @@ uint32_t its_new(struct its_handle *handle, const struct its_description_in *num
 uint32_t its_free(struct its_handle *handle);
 
 /*
- * Reads a register of the translator's control frame at an offset of it, by 4 or 8 bytes (section
- * 12.19). What can't be reached so reads zero. ITS_RANGE at another size, ITS_HANDLE.
+ * Reads a register of the control frame of a translator at an offset of it, by 4 or 8 bytes (section
+ * 12.19). What can't be reached so reads zero. ITS_RANGE where there is no such translator or at another
+ * size, ITS_HANDLE.
  */
-uint32_t its_read_register(struct its_handle *handle, uint32_t offset, uint32_t size,
-                           uint64_t *out);
+uint32_t its_read_register(struct its_handle *handle, uint32_t translator, uint32_t offset,
+                           uint32_t size, uint64_t *out);
 
-/* Writes one; what can't be written so is ignored. ITS_RANGE at another size, ITS_HANDLE. */
-uint32_t its_write_register(struct its_handle *handle, uint32_t offset, uint32_t size,
-                            uint64_t value);
+/* Writes one; what can't be written so is ignored. Errors as for reading. */
+uint32_t its_write_register(struct its_handle *handle, uint32_t translator, uint32_t offset,
+                            uint32_t size, uint64_t value);
 
 /*
  * Reads GICR_CTLR (0x0), GICR_PROPBASER (0x70) or GICR_PENDBASER (0x78) of a redistributor by 4 or 8
@@ -435,28 +450,28 @@ uint32_t its_next_page(struct its_handle *handle, uint64_t from, struct its_stre
 /*
  * Guest memory gets another window, of zeros, as where memory is plugged in: from now on it is as one of
  * those that the machine was made with, and takes no page until something is written there. ITS_FAULT with
- * `fault`, whose kind is ITS_MAKE_ITS_BASE where it shares a byte with the frames, and else
+ * `fault`, whose kind is ITS_MAKE_ITS_BASE where it shares a byte with the frames of `translator`, and else
  * ITS_MAKE_WINDOWS, where there are 16 windows, or it has no byte, ends past 2^52 or shares a byte with
  * another. ITS_NO_MEMORY, ITS_HANDLE.
  */
 uint32_t its_add_window(struct its_handle *handle, uint64_t base, uint64_t length,
                         struct its_make_fault_out *fault);
 
-/* A device's message. It takes no memory of the host. ITS_HANDLE. */
-uint32_t its_signal(struct its_handle *handle, uint32_t device, uint32_t event,
+/* A device's message to a translator. It takes no memory of the host. ITS_RANGE, ITS_HANDLE. */
+uint32_t its_signal(struct its_handle *handle, uint32_t translator, uint32_t device, uint32_t event,
                     struct its_signal_out *out);
 
 /*
- * A write of 1 to 64 bytes by a requester, at an address: a message, where these are two or four bytes
- * at 65,600 after the frames; nothing, where they meet the frames otherwise; else a write of guest
- * memory. ITS_NO_MEMORY and ITS_FULL only of such a write, as of its_write_memory; ITS_RANGE at another
+ * A write of 1 to 64 bytes by a requester, at an address: a message to a translator, where these are two
+ * or four bytes at 65,600 after its frames; nothing, where they meet frames otherwise; else a write of
+ * guest memory. ITS_NO_MEMORY and ITS_FULL only of such a write, as of its_write_memory; ITS_RANGE at another
  * count of bytes, ITS_HANDLE.
  */
 uint32_t its_dma(struct its_handle *handle, uint32_t requester, uint64_t address,
                  const uint8_t *bytes, size_t bytes_len, struct its_dma_out *out);
 
-/* Where a signal of this event would go; nothing changes. ITS_HANDLE. */
-uint32_t its_event(struct its_handle *handle, uint32_t device, uint32_t event,
+/* Where a signal of this event to a translator would go; nothing changes. ITS_RANGE, ITS_HANDLE. */
+uint32_t its_event(struct its_handle *handle, uint32_t translator, uint32_t device, uint32_t event,
                    struct its_event_out *out);
 
 /*
@@ -493,29 +508,32 @@ uint32_t its_pending(struct its_handle *handle, uint32_t vcpu, uint32_t *list, s
                      uint64_t *count);
 
 /*
- * The stretches of guest memory that the next its_step reads: none where it takes no command; else the
- * command's 32 bytes first, and then what this command, as the machine's memory has it now, reads
- * besides. `list` gets the first of them, as many as it takes, and `count` how many there are, at most
- * one more than virtual processors, and never more than 2 where these share a configuration table.
+ * The stretches of guest memory that the next its_step of a translator reads: none where it takes no
+ * command; else the command's 32 bytes first, and then what this command, as the machine's memory has it
+ * now, reads besides. `list` gets the first of them, as many as it takes, and `count` how many there are,
+ * at most one more than virtual processors, and never more than 2 where these share a configuration table.
  * Whatever other bytes guest memory has, the step's answer is the same, and so are the registers, maps,
- * pending LPIs and configurations that it leaves. A stretch may lie outside guest memory. ITS_HANDLE.
+ * pending LPIs and configurations that it leaves. A stretch may lie outside guest memory. ITS_RANGE,
+ * ITS_HANDLE.
  */
-uint32_t its_needs(struct its_handle *handle, struct its_stretch_out *list, size_t list_len,
-                   uint64_t *count);
+uint32_t its_needs(struct its_handle *handle, uint32_t translator, struct its_stretch_out *list,
+                   size_t list_len, uint64_t *count);
 
 /*
  * So what the next its_step reads where the 32 bytes of its command are these, whatever the machine's
- * memory has there: for who lends them (its_step_with). ITS_RANGE where command_len isn't 32, ITS_HANDLE.
+ * memory has there: for who lends them (its_step_with). ITS_RANGE, also where command_len isn't 32, ITS_HANDLE.
  */
-uint32_t its_needs_of(struct its_handle *handle, const uint8_t *command, size_t command_len,
-                      struct its_stretch_out *list, size_t list_len, uint64_t *count);
+uint32_t its_needs_of(struct its_handle *handle, uint32_t translator, const uint8_t *command,
+                      size_t command_len, struct its_stretch_out *list, size_t list_len,
+                      uint64_t *count);
 
 /*
- * The translator takes the next command of its queue (section 5.3). ITS_NO_MEMORY only of a command
+ * A translator takes the next command of its queue (section 5.3). ITS_NO_MEMORY only of a command
  * that adds a device, an event or a collection; ITS_FULL only of one that adds a device or an event,
- * where as many are mapped as the limits say: the command stays in the queue. ITS_HANDLE.
+ * where the translator has as many mapped as the limits say: the command stays in the queue. ITS_RANGE,
+ * ITS_HANDLE.
  */
-uint32_t its_step(struct its_handle *handle, struct its_step_out *out);
+uint32_t its_step(struct its_handle *handle, uint32_t translator, struct its_step_out *out);
 
 /*
  * The same with guest memory that is lent for this step: the stretches of `list`, of which each has the
@@ -523,26 +541,28 @@ uint32_t its_step(struct its_handle *handle, struct its_step_out *out);
  * is made as if guest memory had these bytes alone; a stretch that doesn't lie in one window is passed
  * over. The machine's own memory is neither read nor changed, and nothing that was lent is held
  * afterwards. Where all that it reads is lent as guest memory has it, it does what its_step does.
- * ITS_RANGE where the lengths aren't together bytes_len, ITS_NO_MEMORY also for what is lent, ITS_FULL as
+ * ITS_RANGE, also where the lengths aren't together bytes_len, ITS_NO_MEMORY also for what is lent, ITS_FULL as
  * of its_step, ITS_HANDLE.
  */
-uint32_t its_step_with(struct its_handle *handle, const struct its_stretch_out *list, size_t list_len,
-                       const uint8_t *bytes, size_t bytes_len, struct its_step_out *out);
+uint32_t its_step_with(struct its_handle *handle, uint32_t translator,
+                       const struct its_stretch_out *list, size_t list_len, const uint8_t *bytes,
+                       size_t bytes_len, struct its_step_out *out);
 
 /*
- * How many events may be mapped from now on, in the place of the description's limit; UINT64_MAX is no
- * limit. Events that are mapped stay, also where they are more. ITS_HANDLE.
+ * How many events each translator may map from now on, in the place of the description's limit; UINT64_MAX
+ * is no limit. Events that are mapped stay, also where they are more. ITS_HANDLE.
  */
 uint32_t its_limit(struct its_handle *handle, uint64_t events);
 
-/* So how many events, how many devices, and how many bytes of guest memory. ITS_HANDLE. */
+/* So how many events and devices of each translator, and how many bytes of guest memory. ITS_HANDLE. */
 uint32_t its_limits(struct its_handle *handle, uint64_t events, uint64_t devices, uint64_t memory);
 
 /*
- * How often a translation may have ended, counted from 0: by a MAPD, MAPC, MAPTI, MAPI, MOVI or DISCARD
- * that ran, by a write of GITS_BASER0 or GITS_BASER1, also one that is ignored, and by its_migrate. While
- * the number stays, each event leads where it led (its_event), as far as the maps say: GITS_CTLR and
- * GICR_CTLR, which turn the translator and LPIs on and off, are the caller's to look at. ITS_HANDLE.
+ * How often a translation may have ended, of whichever translator, counted from 0: by a MAPD, MAPC, MAPTI,
+ * MAPI, MOVI or DISCARD that ran, by a write of GITS_BASER0 or GITS_BASER1, also one that is ignored, and
+ * by its_migrate. While the number stays, each event leads where it led (its_event), as far as the maps
+ * say: GITS_CTLR and GICR_CTLR, which turn translators and LPIs on and off, are the caller's to look at.
+ * ITS_HANDLE.
  */
 uint32_t its_routes_changed(struct its_handle *handle, uint64_t *count);
 
@@ -574,20 +594,21 @@ uint32_t its_written(struct its_handle *handle, struct its_stretch_out *list, si
 uint32_t its_migrate(struct its_handle *handle, struct its_save_fault_out *fault);
 
 /*
- * What is mapped, in pieces: `list` gets the first devices from DeviceID `from` on, by rising DeviceID, as
- * many as it takes, and `count` how many it has got. Where these are fewer than it takes, no more follow;
- * else the next piece begins at the last one's DeviceID plus 1. Each call goes through the devices below
- * `from` too. ITS_HANDLE.
+ * What a translator has mapped, in pieces: `list` gets the first devices from DeviceID `from` on, by rising
+ * DeviceID, as many as it takes, and `count` how many it has got. Where these are fewer than it takes, no
+ * more follow; else the next piece begins at the last one's DeviceID plus 1. Each call goes through the
+ * devices below `from` too. ITS_RANGE, ITS_HANDLE.
  */
-uint32_t its_list_devices(struct its_handle *handle, uint32_t from, struct its_device_out *list,
-                          size_t list_len, uint64_t *count);
+uint32_t its_list_devices(struct its_handle *handle, uint32_t translator, uint32_t from,
+                          struct its_device_out *list, size_t list_len, uint64_t *count);
 
-/* So the mapped events of a device, by rising EventID; of one that isn't mapped there are none. ITS_HANDLE. */
-uint32_t its_list_events(struct its_handle *handle, uint32_t device, uint32_t from,
-                         struct its_mapping_out *list, size_t list_len, uint64_t *count);
+/* So the mapped events of a device, by rising EventID; of one that isn't mapped there are none. */
+uint32_t its_list_events(struct its_handle *handle, uint32_t translator, uint32_t device,
+                         uint32_t from, struct its_mapping_out *list, size_t list_len,
+                         uint64_t *count);
 
-/* And so the mapped collections, by rising number. ITS_HANDLE. */
-uint32_t its_list_collections(struct its_handle *handle, uint32_t from,
+/* And so the mapped collections, by rising number. */
+uint32_t its_list_collections(struct its_handle *handle, uint32_t translator, uint32_t from,
                               struct its_collection_out *list, size_t list_len, uint64_t *count);
 
 /* ---- A machine that threads share (libits_shared.a) ---- */
@@ -603,11 +624,12 @@ uint32_t its_list_collections(struct its_handle *handle, uint32_t from,
  * last eight only look, and are no calls of the history.
  *
  * No call waits. Where another pass has a part that it needs (the maps, guest memory, a shard of the cache,
- * one of a processor's two parts), or makes a call meanwhile, it answers ITS_BUSY: nothing happened, and the
- * same call may be made again. its_wait.h has how to wait between two tries. A place has 56 bits: ITS_SPENT
- * comes after 2^56 - 1 calls, and no call of this machine is made any more then. That is two thousand years
- * at a million calls a second. What a call tells is as it was where it answers neither ITS_DONE, nor
- * ITS_FAULT or ITS_OUTSIDE, which are replies with a place.
+ * one of a processor's two parts), or makes a call meanwhile, it answers ITS_BUSY: nothing happened, and
+ * the same call may be made again. its_wait.h has how to wait between two tries. A place has 56 bits:
+ * ITS_SPENT comes after 2^56 - 1 calls, and no call of this machine is made any more then. That is two
+ * thousand years at a million calls a second. Of a machine with two translators a place has 40 bits:
+ * ITS_SPENT comes after 2^40 - 1 calls, which is twelve days at a million a second. What a call tells is as
+ * it was where it answers neither ITS_DONE, nor ITS_FAULT or ITS_OUTSIDE, which are replies with a place.
  */
 struct its_pass {
     void *at;
@@ -620,6 +642,7 @@ struct its_pass {
  * root keep to the description's limits.
  */
 uint32_t its_share(struct its_pass *root, const struct its_description_in *numbers,
+                   const struct its_translator_in *translators, size_t translators_len,
                    const struct its_window_in *windows, size_t windows_len, const uint64_t *pending,
                    size_t pending_len, const struct its_redistributor_in *redistributors,
                    size_t redistributors_len, const struct its_requesters_in *requesters,
@@ -628,8 +651,9 @@ uint32_t its_share(struct its_pass *root, const struct its_description_in *numbe
 
 /*
  * Splits another pass off the root, for a handle that has none: one for each thread, or each device queue.
- * Its calls keep to the limits that those of the root then do. It makes no call of the history. ITS_RANGE where `root` is not the root, or has given 2^32 - 1 passes;
- * ITS_NO_MEMORY; ITS_HANDLE where `root` has no pass or `pass` has one.
+ * Its calls keep to the limits that those of the root then do. It makes no call of the history. ITS_RANGE
+ * where `root` is not the root, or has given 2^32 - 1 passes; ITS_NO_MEMORY; ITS_HANDLE where `root` has no
+ * pass or `pass` has one.
  */
 uint32_t its_split(struct its_pass *root, struct its_pass *pass);
 
@@ -640,9 +664,10 @@ uint32_t its_split(struct its_pass *root, struct its_pass *pass);
 uint32_t its_pass_free(struct its_pass *pass);
 
 /*
- * How many events and devices may be mapped, and how many bytes of guest memory held, by this pass's calls
- * from now on, and by those of passes that are split off it later; UINT64_MAX is no limit. What is mapped or
- * held stays. Where passes have different limits each call keeps to those of its pass. ITS_HANDLE.
+ * How many events and devices each translator may map, and how many bytes of guest memory be held, by this
+ * pass's calls from now on, and by those of passes that are split off it later; UINT64_MAX is no limit.
+ * What is mapped or held stays. Where passes have different limits each call keeps to those of its pass.
+ * ITS_HANDLE.
  */
 uint32_t its_pass_limits(struct its_pass *pass, uint64_t events, uint64_t devices, uint64_t memory);
 
@@ -654,14 +679,14 @@ uint32_t its_pass_limits(struct its_pass *pass, uint64_t events, uint64_t device
 uint32_t its_pass_routes_changed(struct its_pass *pass, uint64_t *count);
 
 /*
- * As its_counters, of the signals, writes by address and steps of this pass, counted from 0 where it was made. It
- * takes no part, so it is never busy. ITS_HANDLE.
+ * As its_counters, of the signals, writes by address and steps of this pass, counted from 0 where it was
+ * made. It takes no part, so it is never busy. ITS_HANDLE.
  */
 uint32_t its_pass_counters(struct its_pass *pass, struct its_counters *out);
 
-/* A device's message. ITS_BUSY, ITS_SPENT, ITS_HANDLE, as each call of a pass that follows. */
-uint32_t its_pass_signal(struct its_pass *pass, uint32_t device, uint32_t event, uint64_t *place,
-                         struct its_signal_out *out);
+/* A device's message. ITS_RANGE; and ITS_BUSY, ITS_SPENT, ITS_HANDLE, as each call of a pass that follows. */
+uint32_t its_pass_signal(struct its_pass *pass, uint32_t translator, uint32_t device,
+                         uint32_t event, uint64_t *place, struct its_signal_out *out);
 
 /* A write by a requester at an address, as by its_dma. ITS_NO_MEMORY, ITS_FULL, ITS_RANGE. */
 uint32_t its_pass_dma(struct its_pass *pass, uint32_t requester, uint64_t address,
@@ -679,22 +704,23 @@ uint32_t its_pass_claim(struct its_pass *pass, uint32_t vcpu, uint32_t intid, ui
                         struct its_ack_out *out);
 
 /* Registers, as by its_read_register and the others. ITS_RANGE; ITS_NO_MEMORY of the last. */
-uint32_t its_pass_read_register(struct its_pass *pass, uint32_t offset, uint32_t size,
-                                uint64_t *place, uint64_t *out);
-uint32_t its_pass_write_register(struct its_pass *pass, uint32_t offset, uint32_t size,
-                                 uint64_t value, uint64_t *place);
+uint32_t its_pass_read_register(struct its_pass *pass, uint32_t translator, uint32_t offset,
+                                uint32_t size, uint64_t *place, uint64_t *out);
+uint32_t its_pass_write_register(struct its_pass *pass, uint32_t translator, uint32_t offset,
+                                 uint32_t size, uint64_t value, uint64_t *place);
 uint32_t its_pass_read_lpi_register(struct its_pass *pass, uint32_t vcpu, uint32_t offset,
                                     uint32_t size, uint64_t *place, uint64_t *out);
 uint32_t its_pass_write_lpi_register(struct its_pass *pass, uint32_t vcpu, uint32_t offset,
                                      uint32_t size, uint64_t value, uint64_t *place);
 
 /*
- * The translator takes the next command of its queue. ITS_NO_MEMORY only of a command that adds a device,
- * an event or a collection; ITS_FULL only of one that adds a device or an event, where as many are mapped as
- * the limits say: the command stays in the queue. `concerned` is told as of its_step, of the state in which the
- * step was made.
+ * A translator takes the next command of its queue. ITS_NO_MEMORY only of a command that adds a device,
+ * an event or a collection; ITS_FULL only of one that adds a device or an event, where the translator has as
+ * many mapped as the limits say: the command stays in the queue. `concerned` is told as of its_step, of the
+ * state in which the step was made. ITS_RANGE.
  */
-uint32_t its_pass_step(struct its_pass *pass, uint64_t *place, struct its_step_out *out);
+uint32_t its_pass_step(struct its_pass *pass, uint32_t translator, uint64_t *place,
+                       struct its_step_out *out);
 
 /*
  * Copies 1 to 64 bytes to guest memory, which one window has; else the call is made and answers
@@ -723,10 +749,11 @@ uint32_t its_pass_save(struct its_pass *pass, uint64_t *place, struct its_save_f
  * ITS_BUSY only where another pass has a part that is needed: the maps, of its_pass_event also what is
  * pending at the target; of its_pass_pending and its_pass_stored_lpi_registers one of the processor's two
  * alone; of its_pass_needs the maps and guest memory, and where the next command reads configurations those
- * of all processors; of its_pass_written all but the cache. ITS_HANDLE.
+ * of all processors; of its_pass_written all but the cache. ITS_RANGE of those that ask a translator,
+ * ITS_HANDLE.
  */
-uint32_t its_pass_event(struct its_pass *pass, uint32_t device, uint32_t event, uint64_t *place,
-                        struct its_event_out *out);
+uint32_t its_pass_event(struct its_pass *pass, uint32_t translator, uint32_t device,
+                        uint32_t event, uint64_t *place, struct its_event_out *out);
 
 /* As its_pending. ITS_NO_MEMORY, ITS_RANGE. */
 uint32_t its_pass_pending(struct its_pass *pass, uint32_t vcpu, uint64_t *place, uint32_t *list,
@@ -740,8 +767,8 @@ uint32_t its_pass_stored_lpi_registers(struct its_pass *pass, uint32_t vcpu, uin
  * As its_needs. It stays so until the step, unless another pass steps, saves, or writes registers or
  * memory meanwhile: a step at the place that is told here reads just these stretches. ITS_NO_MEMORY.
  */
-uint32_t its_pass_needs(struct its_pass *pass, uint64_t *place, struct its_stretch_out *list,
-                        size_t list_len, uint64_t *count);
+uint32_t its_pass_needs(struct its_pass *pass, uint32_t translator, uint64_t *place,
+                        struct its_stretch_out *list, size_t list_len, uint64_t *count);
 
 /*
  * As its_written. Where its_pass_save was done at place P, and this tells P + 1, these are the tables that
@@ -751,14 +778,15 @@ uint32_t its_pass_written(struct its_pass *pass, uint64_t *place, struct its_str
                           size_t list_len, uint64_t *count);
 
 /* As its_list_devices, its_list_events and its_list_collections. */
-uint32_t its_pass_list_devices(struct its_pass *pass, uint32_t from, uint64_t *place,
-                               struct its_device_out *list, size_t list_len, uint64_t *count);
-uint32_t its_pass_list_events(struct its_pass *pass, uint32_t device, uint32_t from,
-                              uint64_t *place, struct its_mapping_out *list, size_t list_len,
-                              uint64_t *count);
-uint32_t its_pass_list_collections(struct its_pass *pass, uint32_t from, uint64_t *place,
-                                   struct its_collection_out *list, size_t list_len,
-                                   uint64_t *count);
+uint32_t its_pass_list_devices(struct its_pass *pass, uint32_t translator, uint32_t from,
+                               uint64_t *place, struct its_device_out *list, size_t list_len,
+                               uint64_t *count);
+uint32_t its_pass_list_events(struct its_pass *pass, uint32_t translator, uint32_t device,
+                              uint32_t from, uint64_t *place, struct its_mapping_out *list,
+                              size_t list_len, uint64_t *count);
+uint32_t its_pass_list_collections(struct its_pass *pass, uint32_t translator, uint32_t from,
+                                   uint64_t *place, struct its_collection_out *list,
+                                   size_t list_len, uint64_t *count);
 
 #ifdef __cplusplus
 }

@@ -9,6 +9,7 @@ use Rattle.its_plain.specs.declared.call.Call.{Call}
 use Rattle.its_plain.specs.declared.call.Reply.{Reply}
 use Rattle.its_plain.specs.declared.call.Signal.{Signal}
 use Rattle.its_types.specs.Ranges.{most_vcpus}
+use Rattle.its_numbers.specs.Translators.{has_translator}
 use Rattle.its_c.specs.Keeping.{Held}
 
 -- whether the machine has a virtual processor of this number
@@ -23,9 +24,13 @@ is_size size = size == 4 || size == 8
 abbrev pub has_register : Plain → ℕ → ℕ → Bool
 has_register u vcpu size = has_vcpu u vcpu && is_size size
 
--- where the message of a device goes
-abbrev pub signalled : Plain → ℕ → ℕ → Signal
-signalled u device event = signal_reply (translated u 0 device event)
+-- the same of the registers of a translator
+abbrev pub has_its_register : Plain → ℕ → ℕ → Bool
+has_its_register u its size = has_translator u its && is_size size
+
+-- where the message of a device to a translator goes
+abbrev pub signalled : Plain → ℕ → ℕ → ℕ → Signal
+signalled u its device event = signal_reply (translated u its device event)
 
 -- the LPI that a virtual processor would acknowledge
 abbrev pub shown : Plain → ℕ → Ack

@@ -11,14 +11,10 @@ abbrev pub UnconcernedStay : List ℕ → Plain → Plain → Type 0
 UnconcernedStay concerned u w =
     (vcpu : ℕ) → vcpu < most_vcpus → word_bit concerned vcpu ≡ false → slice_get w.redistributors vcpu ≡ slice_get u.redistributors vcpu
 
--- one whose bit is set had its pending LPIs or its configuration read or changed by a command that wasn't refused
-abbrev pub AreConcerned : List ℕ → Plain → Type 0
-AreConcerned concerned u = (vcpu : ℕ) → vcpu < most_vcpus → word_bit concerned vcpu ≡ true → IsConcerned u 0 vcpu
+-- one whose bit is set had its pending LPIs or its configuration read or changed by a command that a translator didn't refuse
+abbrev pub AreConcerned : List ℕ → Plain → ℕ → Type 0
+AreConcerned concerned u its = (vcpu : ℕ) → vcpu < most_vcpus → word_bit concerned vcpu ≡ true → IsConcerned u its vcpu
 
--- what a step may answer, of a handle with a machine
+-- what a step may answer, of a handle with a machine that has the translator
 abbrev pub IsStepCode : ℕ → Type 0
 IsStepCode code = (code ≡ codes.done) ⊎ ((code ≡ codes.no_memory) ⊎ (code ≡ codes.full))
-
--- where the bytes that it reads are lent
-abbrev pub IsLentStepCode : ℕ → Type 0
-IsLentStepCode code = (code ≡ codes.range) ⊎ IsStepCode code

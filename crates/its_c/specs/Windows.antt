@@ -1,6 +1,5 @@
 -- A window that guest memory gets while the machine runs.
-use Rattle.std.specs.Prelude.{◌≡◌, ℕ, Bool, not, List, [], ◌∷◌, ◌++◌, Result, Ok, Err}
-use Rattle.std.specs.List.{list_any}
+use Rattle.std.specs.Prelude.{◌≡◌, ℕ, suc, if◌then◌else◌, List, [], ◌∷◌, ◌++◌, Option, Some, None, Result, Ok, Err}
 use Rattle.its_plain.specs.Doorbells.{meets_frames}
 use Rattle.its_plain.specs.Machine.{ensure, ◌>>=◌}
 use Rattle.its_plain.specs.declared.desc.Desc.{Desc}
@@ -31,13 +30,18 @@ beside_with w b = (described_with b.0 w, b.1, b.2)
 abbrev pub held_with : Held → ℕ × ℕ → Held
 held_with h w = record h { machine = with_window h.machine w; desc = described_with h.desc w }
 
--- it shares a byte with the frames of one of these
-abbrev pub meets_any : List Its → ℕ × ℕ → Bool
-meets_any ts w = list_any (meets_frames w.0 w.1) ts
+-- the first of these, counted from i, with whose frames it shares a byte
+abbrev pub met : ℕ → ℕ × ℕ → List Its → Option ℕ
+met i w [] = None
+met i w (t ∷ ts) = if meets_frames w.0 w.1 t then Some i else met (suc i) w ts
+
+abbrev pub ensure_none : Option ℕ → Result (Unit {0}) DescFault
+ensure_none None = Ok tt
+ensure_none (Some its) = Err (fault.Frames its)
 
 -- guest memory can have it, or the first thing that is wrong with it
 abbrev pub window_test : Held → ℕ × ℕ → Result (Unit {0}) DescFault
-window_test h w = ensure (not (meets_any h.desc.translators w)) (fault.Frames 0) >>= λ _. ensure (can_have h.machine.memory w) fault.Windows
+window_test h w = ensure_none (met 0 w h.desc.translators) >>= λ _. ensure (can_have h.machine.memory w) fault.Windows
 
 -- why it hasn't, unless memory ran out
 abbrev pub IsWindowFault : Held → ℕ × ℕ → MakeError → Type 0

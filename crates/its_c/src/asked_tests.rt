@@ -5,25 +5,26 @@ use crate::handle::Handle;
 use crate::making::{its_free, its_new};
 use crate::memory_calls::{its_forget, its_next_page};
 use crate::step_calls::{its_limit, its_needs, its_step, its_written};
-use crate::tests::{FILLS, NO_STEP, NUMBERS, PENDING, WINDOWS, drive, made};
+use crate::tests::{FILLS, NO_STEP, NUMBERS, PENDING, TRANSLATORS, WINDOWS, drive, made};
 use its_numbers::{
-    DONE, DescriptionIn, DmaOut, EventOut, FAULT, FULL, HANDLE, NO_FAULT, OUTSIDE, RANGE,
-    RequestersIn, SignalOut, StretchOut,
+    DONE, DmaOut, EventOut, FAULT, FULL, HANDLE, NO_FAULT, OUTSIDE, RANGE, RequestersIn, SignalOut,
+    StretchOut, TranslatorIn,
 };
 use std::alloc::Global;
 
 // A machine whose frames stand at 0x9000_0000, with these requesters.
 fn by_address(alloc: Global, handle: &mut Handle, requesters: &[RequestersIn]) -> (u32, u32) {
-    let numbers = DescriptionIn {
+    let framed = TranslatorIn {
         has_frames: 1,
         frames: 0x9000_0000,
-        ..NUMBERS
+        ..TRANSLATORS[0]
     };
     let mut fault = NO_FAULT;
     let code = its_new(
         handle,
         alloc,
-        &numbers,
+        &NUMBERS,
+        &[framed],
         &WINDOWS,
         &PENDING,
         &[],
@@ -96,7 +97,7 @@ const NO_STRETCH: StretchOut = StretchOut {
 fn needed(handle: &mut Handle) -> Told {
     let mut list = [NO_STRETCH; 2];
     let mut count = 0;
-    let code = its_needs(handle, &mut list, &mut count);
+    let code = its_needs(handle, 0, &mut list, &mut count);
     let pairs = [
         (list[0].address, list[0].length),
         (list[1].address, list[1].length),
@@ -116,10 +117,10 @@ fn needs_and_limits(rt: HostRuntime) {
     let command = (0x8002_0040, 32);
     assert_eq!(rt; needed(&mut handle), (DONE, 2, [command, (0x8003_0000, 1)]));
     let mut step = NO_STEP;
-    assert_eq!(rt; its_step(&mut handle, alloc, &mut step), FULL);
+    assert_eq!(rt; its_step(&mut handle, alloc, 0, &mut step), FULL);
     assert_eq!(rt; (step.outcome, step.concerned[0]), (9, 0));
     assert_eq!(rt; its_limit(&mut handle, 1), DONE);
-    assert_eq!(rt; its_step(&mut handle, alloc, &mut step), DONE);
+    assert_eq!(rt; its_step(&mut handle, alloc, 0, &mut step), DONE);
     assert_eq!(rt; (step.outcome, step.concerned[0] & 2), (1, 2));
     assert_eq!(rt; its_free(&mut handle, alloc), DONE);
 }
@@ -131,7 +132,7 @@ fn led(handle: &mut Handle, device: u32, event: u32) -> (u32, u32, u32, u32) {
         collection: 9,
         vcpu: 9,
     };
-    its_event(handle, device, event, &mut out);
+    its_event(handle, 0, device, event, &mut out);
     (out.cause, out.intid, out.collection, out.vcpu)
 }
 

@@ -6,7 +6,7 @@ ghost use Rattle.its_plain.specs.Doorbells.{route_of};
 ghost use Rattle.its_plain.specs.Plain.{regs_of};
 ghost use Rattle.owned_machine.specs.Whole.{enables, may_want_memory};
 ghost use Rattle.step_views.specs.Destinations.{destination};
-ghost use Rattle.its_c.specs.Asked.{has_vcpu as has, is_size as is, has_register, signalled};
+ghost use Rattle.its_c.specs.Asked.{has_vcpu as has, has_register, has_its_register, signalled};
 ghost use Rattle.its_c.specs.Asked.{is_count, wrote, wrote_reply, wrote_left};
 ghost use Rattle.its_numbers.specs.Stored.{stored};
 ghost use Rattle.its_numbers.specs.Lists.{HasFirst, SameFrom};
@@ -17,6 +17,7 @@ ghost use Rattle.its_c.specs.Keeping.{IsWriteCode};
 ghost use Rattle.its_c.specs.Routes.{KeepsRoutes};
 ghost use Rattle.its_numbers.specs.Events.{event_out};
 ghost use Rattle.its_numbers.specs.Replies as replies;
+ghost use Rattle.its_numbers.specs.Translators.{has_translator as has_its};
 ghost use Rattle.its_c.specs.Words.{has_word, word as text};
 
 use crate::handle::Handle;
@@ -29,50 +30,58 @@ use crate::words::{put_word, word};
 use its_numbers::{DONE, DmaOut, EventOut, HANDLE, RANGE, RedistributorIn, SignalOut};
 use std::alloc::Global;
 
-/// A read of 4 or 8 bytes of the translator's control frame (IHI 0069, section 12.19).
+/// A read of 4 or 8 bytes of the control frame of a translator (IHI 0069, section 12.19).
 #[unsafe(no_mangle)]
 pub extern "C" fn its_read_register(
     handle: &mut Handle,
     alloc: Global,
+    translator: u32,
     offset: u32,
     size: u32,
     out: &mut u64,
 ) -> u32
     ensures empty { handle.old.machine ≡ None → (result ≡ codes.handle) × (out.new ≡ out.old) }
     ensures kept { beside handle.new ≡ beside handle.old }
-    ensures code { InMachine handle.old handle.new (λ u w. result ≡ codes.if_in_range (is size)) }
+    ensures code { InMachine handle.old handle.new (λ u w.
+        result ≡ codes.if_in_range (has_its_register u translator size)) }
     ensures told { InMachine handle.old handle.new (λ u w.
-        is size ≡ true → out.new ≡ read_reg (regs_of u 0) offset size) }
-    ensures refused { InMachine handle.old handle.new (λ u w. is size ≡ false → out.new ≡ out.old) }
+        has_its_register u translator size ≡ true
+        → out.new ≡ read_reg (regs_of u translator) offset size) }
+    ensures refused { InMachine handle.old handle.new (λ u w.
+        has_its_register u translator size ≡ false → out.new ≡ out.old) }
     ensures same { InMachine handle.old handle.new (λ u w. w ≡ u) }
 {
     if handle.is_empty() {
         return HANDLE;
     }
-    read_register(handle.lent(), alloc, offset, size, out)
+    read_register(handle.lent(), alloc, translator, offset, size, out)
 }
 
-/// A write of 4 or 8 bytes of the translator's control frame.
+/// A write of 4 or 8 bytes of the control frame of a translator.
 #[unsafe(no_mangle)]
 pub extern "C" fn its_write_register(
     handle: &mut Handle,
     alloc: Global,
+    translator: u32,
     offset: u32,
     size: u32,
     value: u64,
 ) -> u32
     ensures empty { handle.old.machine ≡ None → result ≡ codes.handle }
     ensures kept { beside handle.new ≡ beside handle.old }
-    ensures code { InMachine handle.old handle.new (λ u w. result ≡ codes.if_in_range (is size)) }
+    ensures code { InMachine handle.old handle.new (λ u w.
+        result ≡ codes.if_in_range (has_its_register u translator size)) }
     ensures left { InMachine handle.old handle.new (λ u w.
-        is size ≡ true → w ≡ written u 0 offset size value) }
-    ensures refused { InMachine handle.old handle.new (λ u w. is size ≡ false → w ≡ u) }
+        has_its_register u translator size ≡ true
+        → w ≡ written u translator offset size value) }
+    ensures refused { InMachine handle.old handle.new (λ u w.
+        has_its_register u translator size ≡ false → w ≡ u) }
     ensures routes { InHeld handle.old handle.new (λ h k. KeepsRoutes h k) }
 {
     if handle.is_empty() {
         return HANDLE;
     }
-    write_register(handle.lent(), alloc, offset, size, value)
+    write_register(handle.lent(), alloc, translator, offset, size, value)
 }
 
 /// A read of 4 or 8 bytes of the LPI registers of a redistributor (IHI 0069, section 12.11).
@@ -155,29 +164,34 @@ pub extern "C" fn its_stored_lpi_registers(
     stored_lpi_registers(handle.lent(), vcpu, out)
 }
 
-/// A device's message.
+/// A device's message to a translator.
 #[unsafe(no_mangle)]
 pub extern "C" fn its_signal(
     handle: &mut Handle,
     alloc: Global,
+    translator: u32,
     device: u32,
     event: u32,
     out: &mut SignalOut,
 ) -> u32
     ensures empty { handle.old.machine ≡ None → (result ≡ codes.handle) × (out.new ≡ out.old) }
     ensures kept { setting handle.new ≡ setting handle.old }
-    ensures done { InMachine handle.old handle.new (λ u w. result ≡ codes.done) }
-    ensures told { InMachine handle.old handle.new (λ u w.
-        out.new ≡ replies.signal_out (signalled u device event)) }
-    ensures left { InMachine handle.old handle.new (λ u w.
-        w ≡ signal_left u (signalled u device event)) }
-    ensures counted { InHeld handle.old handle.new (λ h k.
-        k.counters ≡ count_signal (signalled h.machine device event) h.counters) }
+    ensures code { InMachine handle.old handle.new (λ u w.
+        result ≡ codes.if_in_range (has_its u translator)) }
+    ensures told { InMachine handle.old handle.new (λ u w. has_its u translator ≡ true
+        → out.new ≡ replies.signal_out (signalled u translator device event)) }
+    ensures left { InMachine handle.old handle.new (λ u w. has_its u translator ≡ true
+        → w ≡ signal_left u (signalled u translator device event)) }
+    ensures counted { InHeld handle.old handle.new (λ h k. has_its h.machine translator ≡ true
+        → k.counters
+        ≡ count_signal (signalled h.machine translator device event) h.counters) }
+    ensures refused { InHeld handle.old handle.new (λ h k. has_its h.machine translator ≡ false
+        → (out.new ≡ out.old) × (k ≡ h)) }
 {
     if handle.is_empty() {
         return HANDLE;
     }
-    signal(handle.lent(), alloc, device, event, out)
+    signal(handle.lent(), alloc, translator, device, event, out)
 }
 
 /// A requester's write of bytes at an address: a message, a write of guest memory, or nothing.
@@ -216,20 +230,29 @@ pub extern "C" fn its_dma(
     dma(handle.lent(), alloc, requester, address, bytes, out)
 }
 
-/// Where a signal of an event would go, by the maps.
+/// Where a signal of an event would go, by the maps of a translator.
 #[unsafe(no_mangle)]
-pub extern "C" fn its_event(handle: &mut Handle, device: u32, event: u32, out: &mut EventOut) -> u32
+pub extern "C" fn its_event(
+    handle: &mut Handle,
+    translator: u32,
+    device: u32,
+    event: u32,
+    out: &mut EventOut,
+) -> u32
     ensures empty { handle.old.machine ≡ None → (result ≡ codes.handle) × (out.new ≡ out.old) }
     ensures kept { beside handle.new ≡ beside handle.old }
-    ensures done { InMachine handle.old handle.new (λ u w. result ≡ codes.done) }
-    ensures told { InMachine handle.old handle.new (λ u w.
-        out.new ≡ event_out (destination u 0 device event)) }
+    ensures code { InMachine handle.old handle.new (λ u w.
+        result ≡ codes.if_in_range (has_its u translator)) }
+    ensures told { InMachine handle.old handle.new (λ u w. has_its u translator ≡ true
+        → out.new ≡ event_out (destination u translator device event)) }
+    ensures refused { InMachine handle.old handle.new (λ u w.
+        has_its u translator ≡ false → out.new ≡ out.old) }
     ensures same { InMachine handle.old handle.new (λ u w. w ≡ u) }
 {
     if handle.is_empty() {
         return HANDLE;
     }
-    interrupts::event(handle.lent(), device, event, out)
+    interrupts::event(handle.lent(), translator, device, event, out)
 }
 
 /// The word of a number: what the buffer takes of it, whose rest stays, and how long it is.

@@ -36,7 +36,7 @@ fn signalled(alloc: Global, handle: &mut Handle, device: u32, event: u32) -> u32
         vcpu: 9,
         intid: 9,
     };
-    its_signal(handle, alloc, device, event, &mut out);
+    its_signal(handle, alloc, 0, device, event, &mut out);
     out.cause
 }
 
@@ -73,9 +73,9 @@ fn commands_by_reason(rt: HostRuntime) {
             place.wrapping_add(0x8002_0000),
             &word.to_le_bytes(),
         );
-        its_write_register(&mut handle, alloc, 0x88, 8, place.wrapping_add(0x20));
+        its_write_register(&mut handle, alloc, 0, 0x88, 8, place.wrapping_add(0x20));
         let mut step = NO_STEP;
-        assert_eq!(rt; its_step(&mut handle, alloc, &mut step), DONE);
+        assert_eq!(rt; its_step(&mut handle, alloc, 0, &mut step), DONE);
         assert_eq!(rt; step.reason, reason);
         assert_eq!(rt; counted(&mut handle), (DONE, [0; 6], counts));
     }

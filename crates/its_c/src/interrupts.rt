@@ -13,9 +13,10 @@ ghost use Rattle.its_c.specs.Keeping.{answered_with, with_machine, IsWriteCode};
 ghost use Rattle.its_plain.specs.declared.call.Reply.TheVariants as reply;
 ghost use Rattle.its_numbers.specs.Events.{event_out};
 ghost use Rattle.its_numbers.specs.Replies as replies;
+ghost use Rattle.its_numbers.specs.Translators.{has_translator as has_its};
 
 use crate::kept::Kept;
-use crate::ranges::has_vcpu;
+use crate::ranges::{has_vcpu, is_translator};
 use its_numbers::{
     AckOut, DONE, DmaOut, EventOut, FULL, NO_MEMORY, RANGE, SignalOut, ack_out, dma_out, event_out,
     signal_out,
@@ -24,17 +25,30 @@ use its_plain::{Bytes64, Call, Reply};
 use its_types::{Addr, DeviceId, EventId, Intid, Vcpu};
 use std::alloc::Global;
 
-/// A device's message.
+/// A device's message to a translator.
 #[tactic(auto, unfolding(its_plain::specs::Answer::reply_of, its_plain::specs::Answer::left))]
-pub fn signal(kept: &mut Kept, alloc: Global, device: u32, event: u32, out: &mut SignalOut) -> u32
-    ensures done { result ≡ codes.done }
-    ensures told { out.new ≡ replies.signal_out (signalled kept.old.machine device event) }
-    ensures left { kept.new ≡ answered_with kept.old
-        (signal_left kept.old.machine (signalled kept.old.machine device event))
-        (reply.Signal (signalled kept.old.machine device event)) }
+pub fn signal(
+    kept: &mut Kept,
+    alloc: Global,
+    translator: u32,
+    device: u32,
+    event: u32,
+    out: &mut SignalOut,
+) -> u32
+    ensures code { result ≡ codes.if_in_range (has_its kept.old.machine translator) }
+    ensures told { has_its kept.old.machine translator ≡ true
+        → out.new ≡ replies.signal_out (signalled kept.old.machine translator device event) }
+    ensures left { has_its kept.old.machine translator ≡ true → kept.new ≡ answered_with kept.old
+        (signal_left kept.old.machine (signalled kept.old.machine translator device event))
+        (reply.Signal (signalled kept.old.machine translator device event)) }
+    ensures refused { has_its kept.old.machine translator ≡ false
+        → (out.new ≡ out.old) × (kept.new ≡ kept.old) }
 {
+    if !is_translator(kept.machine(), translator) {
+        return RANGE;
+    }
     let call = Call::Signal {
-        its: 0,
+        its: translator as u8,
         dev: DeviceId(device),
         ev: EventId(event),
     };
@@ -85,13 +99,19 @@ pub fn dma(
     }
 }
 
-/// Where an event leads.
-pub fn event(kept: &Kept, device: u32, event: u32, out: &mut EventOut) -> u32
-    ensures done { result ≡ codes.done }
-    ensures told { out.new ≡ event_out (destination kept.now.machine 0 device event) }
+/// Where an event leads by the maps of a translator.
+pub fn event(kept: &Kept, translator: u32, device: u32, event: u32, out: &mut EventOut) -> u32
+    ensures code { result ≡ codes.if_in_range (has_its kept.now.machine translator) }
+    ensures told { has_its kept.now.machine translator ≡ true
+        → out.new ≡ event_out (destination kept.now.machine translator device event) }
+    ensures refused { has_its kept.now.machine translator ≡ false → out.new ≡ out.old }
 {
+    if !is_translator(kept.machine(), translator) {
+        return RANGE;
+    }
     let parts = kept.machine().parts();
-    *out = event_out(step_views::event(parts, 0, DeviceId(device), EventId(event)));
+    let its = translator as u8;
+    *out = event_out(step_views::event(parts, its, DeviceId(device), EventId(event)));
     DONE
 }
 

@@ -3,7 +3,7 @@ ghost use Rattle.std.specs.Prelude.{◌≡◌};
 ghost use Rattle.owned_machine.specs.Lent.{on};
 ghost use Rattle.its_numbers.specs.Limits as spec;
 
-use crate::windows::{meets_any, with_one};
+use crate::windows::{met, with_one};
 use dma_routes::route;
 use guest_windows::{Memory, NewError, Outside};
 use its_numbers::{
@@ -61,7 +61,7 @@ impl Kept {
     ghost use Rattle.dma_routes.specs.Routes.{AreDevices};
     ghost use Rattle.guest_windows.specs.Windows.{inside, extent};
     ghost use Rattle.its_c.specs.Keeping.{with_machine, maps_none};
-    ghost use Rattle.its_numbers.specs.Limits.{no_limit, is_full, is_over};
+    ghost use Rattle.its_numbers.specs.Limits.{no_limit, is_full, is_over, is_over_of};
     ghost use Rattle.its_numbers.specs.Counters.{none_counted, count_reply, count_signal};
     ghost use Rattle.its_numbers.specs.Counters.{count_step};
     ghost use Rattle.its_numbers.specs.Routes as ended;
@@ -168,16 +168,21 @@ impl Kept {
         self.limits = limits;
     }
 
-    /// Whether more is mapped than may be.
+    /// Whether a translator has more mapped than may be.
     #[tactic(auto, unfolding(its_numbers::specs::Limits::is_over))]
     pub fn is_over(&self) -> bool
         ensures { result ≡ is_over self.now.limits self.now.machine }
     {
-        is_past(self.limits.events, event_count(self.machine.parts(), 0))
-            || is_past(
-                self.limits.devices,
-                u64::from(device_count(self.machine.parts(), 0)),
-            )
+        self.is_over_of(0) || self.is_over_of(1)
+    }
+
+    // Whether this translator has. One that isn't there has nothing mapped.
+    fn is_over_of(&self, its: u8) -> bool
+        ensures { result ≡ is_over_of self.now.limits self.now.machine its }
+    {
+        let parts = self.machine.parts();
+        is_past(self.limits.events, event_count(parts, its))
+            || is_past(self.limits.devices, u64::from(device_count(parts, its)))
     }
 
     /// Whether as many bytes of guest memory are held as may be, or fewer.
@@ -263,47 +268,48 @@ impl Kept {
         Ok((route, reply))
     }
 
-    /// The translator takes its next command.
+    /// A translator takes its next command.
     #[tactic(auto, unfolding(its_plain::specs::Answer::reply_of, its_plain::specs::Answer::left))]
-    pub fn step(&mut self, alloc: Global) -> Result<StepReply, StepError>
-        ensures reply { IfOk result (λ r. r ≡ plain.step_reply self.old.machine 0) }
+    pub fn step(&mut self, alloc: Global, its: u8) -> Result<StepReply, StepError>
+        ensures reply { IfOk result (λ r. r ≡ plain.step_reply self.old.machine its) }
         ensures left { OnOk result (self.new
-            ≡ with_machine self.old (plain.step_left self.old.machine 0)) }
+            ≡ with_machine self.old (plain.step_left self.old.machine its)) }
         ensures err { OnErr result (self.new ≡ self.old) }
-        ensures full { result ≡ Err Full → is_full self.old.limits self.old.machine ≡ true }
-        ensures where_full { is_full self.old.limits self.old.machine ≡ true → result ≡ Err Full }
-        ensures no_memory { result ≡ Err NoMemory → step_adds self.old.machine 0 ≡ true }
+        ensures full { result ≡ Err Full → is_full self.old.limits self.old.machine its ≡ true }
+        ensures where_full { is_full self.old.limits self.old.machine its ≡ true
+            → result ≡ Err Full }
+        ensures no_memory { result ≡ Err NoMemory → step_adds self.old.machine its ≡ true }
     {
-        if is_full(&self.machine, &self.limits) {
+        if is_full(&self.machine, its, &self.limits) {
             return Err(StepError::Full);
         }
-        match self.machine.answer(alloc, &Call::Step { its: 0 }) {
+        match self.machine.answer(alloc, &Call::Step { its }) {
             Ok(Reply::Step(reply)) => Ok(reply),
             Ok(_) => unreachable!(),
             Err(_) => Err(StepError::NoMemory),
         }
     }
 
-    /// The translator takes its next command on other memory with the same windows: guest memory is
+    /// A translator takes its next command on other memory with the same windows: guest memory is
     /// neither read nor changed.
-    pub fn step_on(&mut self, memory: &Memory) -> Result<StepReply, StepError>
+    pub fn step_on(&mut self, memory: &Memory, its: u8) -> Result<StepReply, StepError>
         requires { map extent memory.now ≡ map extent self.old.machine.memory }
         ensures reply { IfOk result (λ r. r
-            ≡ plain.step_reply (on memory.now self.old.machine) 0) }
+            ≡ plain.step_reply (on memory.now self.old.machine) its) }
         ensures left { OnOk result (self.new
-            ≡ with_machine self.old (left_on memory.now self.old.machine 0)) }
+            ≡ with_machine self.old (left_on memory.now self.old.machine its)) }
         ensures err { OnErr result (self.new ≡ self.old) }
         ensures full { result ≡ Err Full
-            → is_full self.old.limits (on memory.now self.old.machine) ≡ true }
-        ensures where_full { is_full self.old.limits (on memory.now self.old.machine) ≡ true
+            → is_full self.old.limits (on memory.now self.old.machine) its ≡ true }
+        ensures where_full { is_full self.old.limits (on memory.now self.old.machine) its ≡ true
             → result ≡ Err Full }
         ensures no_memory { result ≡ Err NoMemory
-            → step_adds (on memory.now self.old.machine) 0 ≡ true }
+            → step_adds (on memory.now self.old.machine) its ≡ true }
     {
-        if is_full_on(&self.machine, memory, &self.limits) {
+        if is_full_on(&self.machine, memory, its, &self.limits) {
             return Err(StepError::Full);
         }
-        match self.machine.step_on(memory, 0) {
+        match self.machine.step_on(memory, its) {
             Ok(reply) => Ok(reply),
             Err(_) => Err(StepError::NoMemory),
         }
@@ -336,15 +342,15 @@ impl Kept {
     }
 
     /// Adds a window of zero bytes to guest memory, as the machine does, and to the description,
-    /// unless it shares a byte with the translator's frames.
+    /// unless it shares a byte with the frames of a translator.
     pub fn add_window(&mut self, alloc: Global, base: Addr, len: u64) -> Result<(), MakeError>
         ensures added { OnOk result (self.new ≡ held_with self.old (base.0, len)) }
         ensures fits { OnOk result (window_test self.old (base.0, len) ≡ Ok tt) }
         ensures fault { IfErr result (IsWindowFault self.old (base.0, len)) }
         ensures err { OnErr result (self.new ≡ self.old) }
     {
-        if meets_any(self.desc.translators.as_slice(), base, len) {
-            return Err(MakeError::Fault(DescFault::Frames(0)));
+        if let Some(its) = met(self.desc.translators.as_slice(), base, len) {
+            return Err(MakeError::Fault(DescFault::Frames(its)));
         }
         let windows = with_one(alloc, self.desc.windows.as_slice(), base, len)?;
         match self.machine.add_window(alloc, base, len) {
@@ -369,20 +375,21 @@ impl Kept {
     }
 }
 
-// Whether the next step would map another event or device, where as many are mapped as may be.
-fn is_full(machine: &Machine, limits: &GuestLimits) -> bool
-    ensures { result ≡ spec.is_full limits.now machine.now }
+// Whether the next step of a translator would map another event or device, where it has as many
+// mapped as may be.
+fn is_full(machine: &Machine, its: u8, limits: &GuestLimits) -> bool
+    ensures { result ≡ spec.is_full limits.now machine.now its }
 {
-    is_full_on(machine, &machine.parts().memory, limits)
+    is_full_on(machine, &machine.parts().memory, its, limits)
 }
 
 // So of a step on other memory. Only at a limit is the command looked at.
 #[tactic(auto, unfolding(its_numbers::specs::Limits::is_full))]
-fn is_full_on(machine: &Machine, memory: &Memory, limits: &GuestLimits) -> bool
-    ensures { result ≡ spec.is_full limits.now (on memory.now machine.now) }
+fn is_full_on(machine: &Machine, memory: &Memory, its: u8, limits: &GuestLimits) -> bool
+    ensures { result ≡ spec.is_full limits.now (on memory.now machine.now) its }
 {
     let parts = machine.parts();
-    is_at(limits.events, event_count(parts, 0)) && adds_event_on(parts, memory, 0)
-        || is_at(limits.devices, u64::from(device_count(parts, 0)))
-            && adds_device_on(parts, memory, 0)
+    is_at(limits.events, event_count(parts, its)) && adds_event_on(parts, memory, its)
+        || is_at(limits.devices, u64::from(device_count(parts, its)))
+            && adds_device_on(parts, memory, its)
 }

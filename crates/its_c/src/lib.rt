@@ -26,6 +26,10 @@ mod many_tests;
 mod mapped;
 mod memory;
 mod memory_calls;
+#[cfg(test)]
+mod pair_state_tests;
+#[cfg(test)]
+mod pair_tests;
 mod pending;
 mod pieces;
 mod ranges;

@@ -6,10 +6,10 @@ use crate::memory_calls::{its_forget, its_next_page, its_read_memory, its_write_
 use crate::step_calls::{
     its_limits, its_migrate, its_needs_of, its_routes_changed, its_save, its_step, its_step_with,
 };
-use crate::tests::{FILLS, NO_SAVE_FAULT, NO_STEP, NUMBERS, PENDING, WINDOWS, drive};
+use crate::tests::{FILLS, NO_SAVE_FAULT, NO_STEP, NUMBERS, PENDING, TRANSLATORS, WINDOWS, drive};
 use its_numbers::{
     DONE, DescriptionIn, DmaOut, FULL, FillIn, HANDLE, NO_FAULT, OUTSIDE, RANGE, SignalOut,
-    StretchOut,
+    StretchOut, TranslatorIn,
 };
 use std::alloc::Global;
 
@@ -31,11 +31,23 @@ fn made(
     fills: &[FillIn],
     bytes: &[u8],
 ) -> u32 {
+    made_with(alloc, handle, numbers, &TRANSLATORS, fills, bytes)
+}
+
+fn made_with(
+    alloc: Global,
+    handle: &mut Handle,
+    numbers: &DescriptionIn,
+    translators: &[TranslatorIn],
+    fills: &[FillIn],
+    bytes: &[u8],
+) -> u32 {
     let mut fault = NO_FAULT;
     its_new(
         handle,
         alloc,
         numbers,
+        translators,
         &WINDOWS,
         &PENDING,
         &[],
@@ -66,7 +78,7 @@ fn ran(alloc: Global, events: u64, devices: u64) -> (u32, u32) {
     );
     let count = drive(alloc, &mut handle);
     let mut step = NO_STEP;
-    let next = its_step(&mut handle, alloc, &mut step);
+    let next = its_step(&mut handle, alloc, 0, &mut step);
     its_free(&mut handle, alloc);
     (count, next)
 }
@@ -95,7 +107,7 @@ fn limits_that_change(rt: HostRuntime) {
     assert_eq!(rt; drive(alloc, &mut handle), 2);
     assert_eq!(rt; its_limits(&mut handle, 1, 0, NONE), DONE);
     let mut step = NO_STEP;
-    assert_eq!(rt; its_step(&mut handle, alloc, &mut step), DONE);
+    assert_eq!(rt; its_step(&mut handle, alloc, 0, &mut step), DONE);
     assert_eq!(rt; step.outcome, 1);
     assert_eq!(rt; its_free(&mut handle, alloc), DONE);
 }
@@ -175,22 +187,25 @@ const SAVED: [u8; 24] = [
 fn restored(alloc: Global, events: u64, devices: u64) -> (u32, u32, u32) {
     let numbers = DescriptionIn {
         restored: 1,
+        ..limited(events, devices)
+    };
+    let given = TranslatorIn {
         ctlr: 1,
         cbaser: 0x8000_0000_8002_0000,
         creadr: 0x60,
         cwriter: 0x60,
         baser0: 0x8107_0000_8000_0200,
         baser1: 0x8407_0000_8001_0200,
-        ..limited(events, devices)
+        ..TRANSLATORS[0]
     };
     let mut handle = Handle::empty(alloc);
-    let code = made(alloc, &mut handle, &numbers, &ENTRIES, &SAVED);
+    let code = made_with(alloc, &mut handle, &numbers, &[given], &ENTRIES, &SAVED);
     let mut out = SignalOut {
         cause: 9,
         vcpu: 9,
         intid: 9,
     };
-    its_signal(&mut handle, alloc, 7, 2, &mut out);
+    its_signal(&mut handle, alloc, 0, 7, 2, &mut out);
     (code, out.intid, its_free(&mut handle, alloc))
 }
 
@@ -228,7 +243,7 @@ fn lent_bytes(rt: HostRuntime) {
     let mut handle = Handle::empty(alloc);
     let mut step = NO_STEP;
     assert_eq!(rt;
-        its_step_with(&mut handle, alloc, &LENT, &LENT_BYTES, &mut step),
+        its_step_with(&mut handle, alloc, 0, &LENT, &LENT_BYTES, &mut step),
         HANDLE
     );
     assert_eq!(rt;
@@ -236,17 +251,20 @@ fn lent_bytes(rt: HostRuntime) {
         DONE
     );
     assert_eq!(rt; drive(alloc, &mut handle), 3);
-    assert_eq!(rt; its_write_register(&mut handle, alloc, 0x88, 8, 0x80), DONE);
+    assert_eq!(rt;
+        its_write_register(&mut handle, alloc, 0, 0x88, 8, 0x80),
+        DONE
+    );
     assert_eq!(rt; its_forget(&mut handle, 0x8000_0000, 0x20_0000), DONE);
     let command = LENT_BYTES.as_slice().split_at(32).0;
     let mut list = [LENT[1], LENT[0]];
     let mut count = 9;
     assert_eq!(rt;
-        its_needs_of(&mut handle, &[0; 31], &mut list, &mut count),
+        its_needs_of(&mut handle, 0, &[0; 31], &mut list, &mut count),
         RANGE
     );
     assert_eq!(rt;
-        its_needs_of(&mut handle, command, &mut list, &mut count),
+        its_needs_of(&mut handle, 0, command, &mut list, &mut count),
         DONE
     );
     assert_eq!(rt;
@@ -254,18 +272,18 @@ fn lent_bytes(rt: HostRuntime) {
         (2, 0x8002_0060, 0x8003_0001)
     );
     assert_eq!(rt;
-        its_step_with(&mut handle, alloc, &LENT, &[0; 32], &mut step),
+        its_step_with(&mut handle, alloc, 0, &LENT, &[0; 32], &mut step),
         RANGE
     );
     assert_eq!(rt; its_limits(&mut handle, 1, NONE, NONE), DONE);
     assert_eq!(rt;
-        its_step_with(&mut handle, alloc, &LENT, &LENT_BYTES, &mut step),
+        its_step_with(&mut handle, alloc, 0, &LENT, &LENT_BYTES, &mut step),
         FULL
     );
     assert_eq!(rt; step.outcome, 9);
     assert_eq!(rt; its_limits(&mut handle, 2, NONE, NONE), DONE);
     assert_eq!(rt;
-        its_step_with(&mut handle, alloc, &LENT, &LENT_BYTES, &mut step),
+        its_step_with(&mut handle, alloc, 0, &LENT, &LENT_BYTES, &mut step),
         DONE
     );
     assert_eq!(rt;
@@ -302,7 +320,7 @@ fn routes_that_may_have_changed(rt: HostRuntime) {
     assert_eq!(rt; drive(alloc, &mut handle), 3);
     assert_eq!(rt; routes(&mut handle), (DONE, 5));
     let mut out = NO_DMA;
-    its_signal(&mut handle, alloc, 7, 2, &mut out.signal);
+    its_signal(&mut handle, alloc, 0, 7, 2, &mut out.signal);
     let mut fault = NO_SAVE_FAULT;
     assert_eq!(rt; its_save(&mut handle, alloc, &mut fault), DONE);
     assert_eq!(rt; routes(&mut handle), (DONE, 5));

@@ -14,7 +14,7 @@ fn devices(handle: &mut Handle, from: u32, most: usize) -> (u32, u64, u32, u32, 
     };
     let mut list = [none; 2];
     let mut count = 99;
-    let code = its_list_devices(handle, from, &mut list[..most.min(2)], &mut count);
+    let code = its_list_devices(handle, 0, from, &mut list[..most.min(2)], &mut count);
     (code, count, list[0].device, list[0].event_bits, list[0].itt)
 }
 
@@ -25,7 +25,7 @@ fn events(handle: &mut Handle, device: u32, from: u32) -> (u32, u64, u32, u32, u
         collection: 99,
     }; 2];
     let mut count = 99;
-    let code = its_list_events(handle, device, from, &mut list, &mut count);
+    let code = its_list_events(handle, 0, device, from, &mut list, &mut count);
     (
         code,
         count,
@@ -41,7 +41,7 @@ fn collections(handle: &mut Handle, from: u32) -> (u32, u64, u32, u32) {
         vcpu: 99,
     }; 2];
     let mut count = 99;
-    let code = its_list_collections(handle, from, &mut list, &mut count);
+    let code = its_list_collections(handle, 0, from, &mut list, &mut count);
     (code, count, list[0].collection, list[0].vcpu)
 }
 

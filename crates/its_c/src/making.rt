@@ -17,7 +17,7 @@ use crate::kept::Kept;
 use dma_routes::requesters_are_devices;
 use its_numbers::{
     DONE, DescriptionIn, FAULT, FULL, FillIn, GuestLimits, HANDLE, MakeFaultOut, NO_MEMORY, RANGE,
-    RedistributorIn, RequestersIn, WindowIn, description, guest_limits, is_in_range,
+    RedistributorIn, RequestersIn, TranslatorIn, WindowIn, description, guest_limits, is_in_range,
     make_fault_out,
 };
 use its_plain::{Desc, MakeError};
@@ -33,6 +33,7 @@ pub extern "C" fn its_new(
     handle: &mut Handle,
     alloc: Global,
     numbers: &DescriptionIn,
+    translators: &[TranslatorIn],
     windows: &[WindowIn],
     pending: &[u64],
     redistributors: &[RedistributorIn],
@@ -44,29 +45,30 @@ pub extern "C" fn its_new(
     ensures in_use { is_none handle.old.machine ≡ false → result ≡ codes.handle }
     ensures only_in_use { result ≡ codes.handle → is_none handle.old.machine ≡ false }
     ensures range { handle.old.machine ≡ None
-        → in_range numbers.now (length pending.now) (length redistributors.now) fills.now
-        (length bytes.now) ≡ false
+        → in_range numbers.now translators.now (length pending.now) (length redistributors.now)
+        fills.now (length bytes.now) ≡ false
         → result ≡ codes.range }
     ensures only_range { result ≡ codes.range
-        → in_range numbers.now (length pending.now) (length redistributors.now) fills.now
-        (length bytes.now) ≡ false }
+        → in_range numbers.now translators.now (length pending.now) (length redistributors.now)
+        fills.now (length bytes.now) ≡ false }
     ensures done { result ≡ codes.done
-        → IsMade (description_of numbers.now windows.now pending.now redistributors.now
-        requesters.now fills.now bytes.now) (guest_limits_of numbers.now) handle.new.machine }
+        → IsMade (description_of numbers.now translators.now windows.now pending.now
+        redistributors.now requesters.now fills.now bytes.now) (guest_limits_of numbers.now) handle.new.machine }
     ensures same { result ≢ codes.done → handle.new ≡ handle.old }
     ensures full { result ≡ codes.full
-        → IsTooMuch (description_of numbers.now windows.now pending.now redistributors.now
-        requesters.now fills.now bytes.now) (guest_limits_of numbers.now) }
+        → IsTooMuch (description_of numbers.now translators.now windows.now pending.now
+        redistributors.now requesters.now fills.now bytes.now) (guest_limits_of numbers.now) }
     ensures untold { result ≡ codes.full → fault.new ≡ fault.old }
     ensures unmade { result ≢ codes.full → IsUnmade result
-        (description_of numbers.now windows.now pending.now redistributors.now requesters.now
-        fills.now bytes.now) fault.old fault.new }
+        (description_of numbers.now translators.now windows.now pending.now redistributors.now
+        requesters.now fills.now bytes.now) fault.old fault.new }
 {
     if !handle.is_empty() {
         return HANDLE;
     }
     if !is_in_range(
         numbers,
+        translators,
         pending.len(),
         redistributors.len(),
         fills,
@@ -77,6 +79,7 @@ pub extern "C" fn its_new(
     let Ok(desc) = description(
         alloc,
         numbers,
+        translators,
         windows,
         pending,
         redistributors,

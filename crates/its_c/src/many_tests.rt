@@ -5,7 +5,7 @@ use crate::handle::Handle;
 use crate::making::{its_free, its_new};
 use crate::memory_calls::its_write_memory;
 use crate::step_calls::its_step;
-use crate::tests::{FILLS, NO_STEP, NUMBERS, WINDOWS, drive};
+use crate::tests::{FILLS, NO_STEP, NUMBERS, TRANSLATORS, WINDOWS, drive};
 use its_numbers::{AckOut, DONE, DescriptionIn, NO_FAULT, RANGE, RedistributorIn};
 use std::alloc::Global;
 
@@ -30,6 +30,7 @@ fn made(alloc: Global, handle: &mut Handle, vcpus: u32, registers: &[Redistribut
         handle,
         alloc,
         &numbers,
+        &TRANSLATORS,
         &WINDOWS,
         &[],
         registers,
@@ -55,13 +56,13 @@ fn write_commands(alloc: Global, handle: &mut Handle) -> u32 {
         its_write_memory(handle, alloc, at, &word.to_le_bytes());
         at = at.wrapping_add(8);
     }
-    its_write_register(handle, alloc, 0x88, 8, 0xa0)
+    its_write_register(handle, alloc, 0, 0x88, 8, 0xa0)
 }
 
 // What became of the next command, and whom it concerns.
 fn stepped(alloc: Global, handle: &mut Handle) -> (u32, [u64; 8]) {
     let mut step = NO_STEP;
-    its_step(handle, alloc, &mut step);
+    its_step(handle, alloc, 0, &mut step);
     (step.outcome, step.concerned)
 }
 

@@ -1,6 +1,7 @@
 //! Which numbers are in their ranges.
-ghost use Rattle.std.specs.Prelude.{◌≡◌};
+ghost use Rattle.std.specs.Prelude.{◌≡◌, ◌<◌, true};
 ghost use Rattle.its_c.specs.Asked as spec;
+ghost use Rattle.its_numbers.specs.Translators.{has_translator};
 
 use its_types::MOST_VCPUS;
 use owned_machine::Machine;
@@ -10,6 +11,17 @@ pub fn has_vcpu(machine: &Machine, vcpu: u32) -> bool
     ensures { result ≡ spec.has_vcpu machine.now vcpu }
 {
     vcpu < u32::from(MOST_VCPUS) && (vcpu as usize) < machine.vcpus()
+}
+
+/// Whether there is a translator of this number.
+pub fn is_translator(machine: &Machine, translator: u32) -> bool
+    ensures is { result ≡ has_translator machine.now translator }
+    ensures low { result ≡ true → translator < 2 }
+{
+    match machine.parts().second {
+        Some(_) => translator < 2,
+        None => translator < 1,
+    }
 }
 
 /// Whether registers are accessed in so many bytes.

@@ -1,10 +1,10 @@
-//! Registers: those of the translator, and the LPI registers of redistributors.
+//! Registers: those of translators, and the LPI registers of redistributors.
 ghost use Rattle.std.specs.Prelude.{◌≡◌, ◌≢◌, ◌⊎◌, true, false};
 ghost use Rattle.gits_regs.specs.Registers.{read_reg};
 ghost use Rattle.its_plain.specs.Answer.{written, gicr_read, gicr_written};
 ghost use Rattle.its_plain.specs.Plain.{regs_of};
 ghost use Rattle.owned_machine.specs.Whole.{enables};
-ghost use Rattle.its_c.specs.Asked.{is_size as is, has_vcpu as has, has_register};
+ghost use Rattle.its_c.specs.Asked.{has_vcpu as has, has_register, has_its_register as has_its};
 ghost use Rattle.its_numbers.specs.Stored.{stored};
 ghost use Rattle.its_numbers.specs.Codes as codes;
 ghost use Rattle.its_c.specs.Keeping.{with_machine};
@@ -12,25 +12,33 @@ ghost use Rattle.its_c.specs.Routes.{went_on, KeepsRoutes};
 ghost use Rattle.its_numbers.specs.Routes as ended;
 
 use crate::kept::Kept;
-use crate::ranges::{has_vcpu, is_size};
+use crate::ranges::{has_vcpu, is_size, is_translator};
 use its_numbers::{DONE, NO_MEMORY, RANGE, RedistributorIn, is_no_table};
 use its_plain::{Call, Reply};
 use its_types::Vcpu;
 use std::alloc::Global;
 
-/// A read of 4 or 8 bytes of the translator's control frame (IHI 0069, section 12.19).
+/// A read of 4 or 8 bytes of the control frame of a translator (IHI 0069, section 12.19).
 #[tactic(auto, unfolding(its_plain::specs::Answer::reply_of, its_plain::specs::Answer::left))]
-pub fn read_register(kept: &mut Kept, alloc: Global, offset: u32, size: u32, out: &mut u64) -> u32
-    ensures code { result ≡ codes.if_in_range (is size) }
-    ensures told { is size ≡ true → out.new ≡ read_reg (regs_of kept.old.machine 0) offset size }
-    ensures refused { is size ≡ false → out.new ≡ out.old }
+pub fn read_register(
+    kept: &mut Kept,
+    alloc: Global,
+    translator: u32,
+    offset: u32,
+    size: u32,
+    out: &mut u64,
+) -> u32
+    ensures code { result ≡ codes.if_in_range (has_its kept.old.machine translator size) }
+    ensures told { has_its kept.old.machine translator size ≡ true
+        → out.new ≡ read_reg (regs_of kept.old.machine translator) offset size }
+    ensures refused { has_its kept.old.machine translator size ≡ false → out.new ≡ out.old }
     ensures same { kept.new ≡ kept.old }
 {
-    if !is_size(size) {
+    if !(is_translator(kept.machine(), translator) && is_size(size)) {
         return RANGE;
     }
     let call = Call::ReadReg {
-        its: 0,
+        its: translator as u8,
         off: offset,
         size: size as u8,
     };
@@ -41,21 +49,28 @@ pub fn read_register(kept: &mut Kept, alloc: Global, offset: u32, size: u32, out
     DONE
 }
 
-/// A write of 4 or 8 bytes of the translator's control frame.
+/// A write of 4 or 8 bytes of the control frame of a translator.
 #[tactic(auto, unfolding(its_plain::specs::Answer::reply_of, its_plain::specs::Answer::left))]
-pub fn write_register(kept: &mut Kept, alloc: Global, offset: u32, size: u32, value: u64) -> u32
-    ensures code { result ≡ codes.if_in_range (is size) }
-    ensures left { is size ≡ true
-        → kept.new ≡ went_on kept.old (written kept.old.machine 0 offset size value)
+pub fn write_register(
+    kept: &mut Kept,
+    alloc: Global,
+    translator: u32,
+    offset: u32,
+    size: u32,
+    value: u64,
+) -> u32
+    ensures code { result ≡ codes.if_in_range (has_its kept.old.machine translator size) }
+    ensures left { has_its kept.old.machine translator size ≡ true
+        → kept.new ≡ went_on kept.old (written kept.old.machine translator offset size value)
         (ended.is_no_table offset) }
     ensures routes { KeepsRoutes kept.old kept.new }
-    ensures refused { is size ≡ false → kept.new ≡ kept.old }
+    ensures refused { has_its kept.old.machine translator size ≡ false → kept.new ≡ kept.old }
 {
-    if !is_size(size) {
+    if !(is_translator(kept.machine(), translator) && is_size(size)) {
         return RANGE;
     }
     let call = Call::WriteReg {
-        its: 0,
+        its: translator as u8,
         off: offset,
         size: size as u8,
         value,

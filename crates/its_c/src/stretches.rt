@@ -1,48 +1,68 @@
 //! Stretches of guest memory, told in lists: what the next step reads, and what a save writes.
-ghost use Rattle.std.specs.Prelude.{◌≡◌, ◌≢◌, ◌⊎◌, ◌≤◌, ◌+◌, length, map, slice_set};
+ghost use Rattle.std.specs.Prelude.{◌≡◌, ◌≢◌, ◌⊎◌, ◌≤◌, ◌+◌, true, false, length, map, slice_set};
 ghost use Rattle.its_types.specs.Ranges.{most_vcpus};
 ghost use Rattle.its_numbers.specs.Codes as codes;
 ghost use Rattle.its_numbers.specs.Lists.{HasFirstOf, SameRest, stretch_out};
-ghost use Rattle.its_c.specs.Stretches.{needed, needed_by, is_command, written_tables as tables};
+ghost use Rattle.its_c.specs.Stretches.{needed, needed_by, has_command, written_tables as tables};
+ghost use Rattle.its_numbers.specs.Translators.{has_translator as has};
 ghost use Rattle.step_views.specs.Pairs.{pair_of};
 
 use crate::kept::Kept;
+use crate::ranges::is_translator;
 use its_numbers::{DONE, NO_MEMORY, RANGE, StretchOut, put_tables};
 use std::alloc::Global;
 use step_views::{Needs, Stretch, needs, needs_by};
 use table_save::written_tables;
 
-/// The stretches that the next step reads, as many as the list takes, whose rest stays; and how
-/// many there are.
-pub fn needed(kept: &Kept, list: &mut [StretchOut], count: &mut u64) -> u32
-    ensures done { result ≡ codes.done }
-    ensures told { HasFirstOf (needed kept.now.machine) list.new }
-    ensures rest { SameRest (length (needed kept.now.machine)) list.old list.new }
+/// The stretches that the next step of a translator reads, as many as the list takes, whose rest
+/// stays; and how many there are.
+pub fn needed(kept: &Kept, translator: u32, list: &mut [StretchOut], count: &mut u64) -> u32
+    ensures code { result ≡ codes.if_in_range (has kept.now.machine translator) }
+    ensures told { has kept.now.machine translator ≡ true
+        → HasFirstOf (needed kept.now.machine translator) list.new }
+    ensures rest { has kept.now.machine translator ≡ true
+        → SameRest (length (needed kept.now.machine translator)) list.old list.new }
     ensures length { length list.new ≡ length list.old }
-    ensures count { count.new ≡ length (needed kept.now.machine) }
+    ensures count { has kept.now.machine translator ≡ true
+        → count.new ≡ length (needed kept.now.machine translator) }
+    ensures refused { has kept.now.machine translator ≡ false
+        → (list.new ≡ list.old) × (count.new ≡ count.old) }
 {
-    *count = put_needs(needs(kept.machine().parts(), 0), list);
+    if !is_translator(kept.machine(), translator) {
+        return RANGE;
+    }
+    *count = put_needs(needs(kept.machine().parts(), translator as u8), list);
     DONE
 }
 
 /// So the stretches that the next step reads where the bytes of its command are these.
-pub fn needed_by(kept: &Kept, command: &[u8], list: &mut [StretchOut], count: &mut u64) -> u32
-    ensures code { result ≡ codes.if_in_range (is_command command.now) }
+pub fn needed_by(
+    kept: &Kept,
+    translator: u32,
+    command: &[u8],
+    list: &mut [StretchOut],
+    count: &mut u64,
+) -> u32
+    ensures code { result
+        ≡ codes.if_in_range (has_command kept.now.machine translator command.now) }
     ensures told { result ≡ codes.done
-        → HasFirstOf (needed_by kept.now.machine command.now) list.new }
+        → HasFirstOf (needed_by kept.now.machine translator command.now) list.new }
     ensures rest { result ≡ codes.done
-        → SameRest (length (needed_by kept.now.machine command.now)) list.old list.new }
+        → SameRest (length (needed_by kept.now.machine translator command.now)) list.old list.new }
     ensures length { length list.new ≡ length list.old }
     ensures count { result ≡ codes.done
-        → count.new ≡ length (needed_by kept.now.machine command.now) }
+        → count.new ≡ length (needed_by kept.now.machine translator command.now) }
     ensures only { result ≢ codes.done → (list.new ≡ list.old) × (count.new ≡ count.old) }
 {
-    if command.len() != 32 {
+    if !(is_translator(kept.machine(), translator) && command.len() == 32) {
         return RANGE;
     }
     let mut bytes = [0; 32];
     bytes.copy_from_slice(command);
-    *count = put_needs(needs_by(kept.machine().parts(), 0, &bytes), list);
+    *count = put_needs(
+        needs_by(kept.machine().parts(), translator as u8, &bytes),
+        list,
+    );
     DONE
 }
 

@@ -10,7 +10,7 @@ use crate::memory_calls::{its_read_memory, its_write_memory};
 use crate::step_calls::{its_migrate, its_save, its_step};
 use its_numbers::{
     AckOut, DONE, DescriptionIn, FillIn, HANDLE, NO_FAULT, OUTSIDE, RANGE, RedistributorIn,
-    SaveFaultOut, SignalOut, StepOut, WindowIn,
+    SaveFaultOut, SignalOut, StepOut, TranslatorIn, WindowIn,
 };
 use std::alloc::Global;
 
@@ -23,8 +23,15 @@ pub const NUMBERS: DescriptionIn = DescriptionIn {
     programmed: 0,
     restored: 0,
     linux_guest: 0,
-    has_frames: 0,
     config: 0x8003_0000,
+    event_limit: u64::MAX,
+    device_limit: u64::MAX,
+    memory_limit: u64::MAX,
+};
+
+/// One translator at reset, to which no device writes by address.
+pub const TRANSLATORS: [TranslatorIn; 1] = [TranslatorIn {
+    has_frames: 0,
     frames: 0,
     ctlr: 0,
     cbaser: 0,
@@ -32,10 +39,7 @@ pub const NUMBERS: DescriptionIn = DescriptionIn {
     cwriter: 0,
     baser0: 0,
     baser1: 0,
-    event_limit: u64::MAX,
-    device_limit: u64::MAX,
-    memory_limit: u64::MAX,
-};
+}];
 
 /// 2 MiB.
 pub const WINDOWS: [WindowIn; 1] = [WindowIn {
@@ -79,11 +83,13 @@ const COMMANDS: [u64; 12] = [
 /// No fault of a save.
 pub const NO_SAVE_FAULT: SaveFaultOut = SaveFaultOut {
     kind: 0,
+    translator: 0,
     device: 0,
     region: 0,
     number: 0,
     other_region: 0,
     other_number: 0,
+    other_translator: 0,
 };
 
 const NO_ACK: AckOut = AckOut {
@@ -107,6 +113,7 @@ pub fn made(alloc: Global, handle: &mut Handle) -> u32 {
         handle,
         alloc,
         &NUMBERS,
+        &TRANSLATORS,
         &WINDOWS,
         &PENDING,
         &[],
@@ -120,18 +127,18 @@ pub fn made(alloc: Global, handle: &mut Handle) -> u32 {
 /// The guest's driver. How many commands ran.
 pub fn drive(alloc: Global, handle: &mut Handle) -> u32 {
     for (offset, size, value) in &REGISTERS {
-        its_write_register(handle, alloc, *offset, *size, *value);
+        its_write_register(handle, alloc, 0, *offset, *size, *value);
     }
     let mut at = 0x8002_0000;
     for word in &COMMANDS {
         its_write_memory(handle, alloc, at, &word.to_le_bytes());
         at = at.wrapping_add(8);
     }
-    its_write_register(handle, alloc, 0x88, 8, 0x60);
+    its_write_register(handle, alloc, 0, 0x88, 8, 0x60);
     let mut ran = 0;
     for _ in 0..4u32 {
         let mut step = NO_STEP;
-        if its_step(handle, alloc, &mut step) == DONE && step.outcome == 1 {
+        if its_step(handle, alloc, 0, &mut step) == DONE && step.outcome == 1 {
             ran += 1;
         }
     }
@@ -150,7 +157,7 @@ fn signalled(alloc: Global, handle: &mut Handle) -> (u32, u32, u32, u32) {
         vcpu: 9,
         intid: 9,
     };
-    let code = its_signal(handle, alloc, 7, 2, &mut out);
+    let code = its_signal(handle, alloc, 0, 7, 2, &mut out);
     (code, out.cause, out.vcpu, out.intid)
 }
 
@@ -196,12 +203,12 @@ fn registers_and_memory(rt: HostRuntime) {
     assert_eq!(rt; made(alloc, &mut handle), DONE);
     let mut value = 9;
     assert_eq!(rt;
-        its_read_register(&mut handle, alloc, 0x0, 4, &mut value),
+        its_read_register(&mut handle, alloc, 0, 0x0, 4, &mut value),
         DONE
     );
     assert_eq!(rt; value, 0x8000_0000);
     assert_eq!(rt;
-        its_read_register(&mut handle, alloc, 0x0, 3, &mut value),
+        its_read_register(&mut handle, alloc, 0, 0x0, 3, &mut value),
         RANGE
     );
     assert_eq!(rt;
@@ -249,6 +256,7 @@ fn programmed(alloc: Global, handle: &mut Handle) -> u32 {
         handle,
         alloc,
         &numbers,
+        &TRANSLATORS,
         &windows,
         &[],
         &[off, off],

@@ -4,9 +4,9 @@ use crate::handle::Handle;
 use crate::making::{its_free, its_new};
 use crate::memory_calls::{its_read_memory, its_write_memory};
 use crate::step_calls::{its_migrate, its_save, its_step};
-use crate::tests::{FILLS, NO_SAVE_FAULT, NO_STEP, NUMBERS, PENDING, WINDOWS, drive};
+use crate::tests::{FILLS, NO_SAVE_FAULT, NO_STEP, NUMBERS, PENDING, TRANSLATORS, WINDOWS, drive};
 use crate::window_calls::its_add_window;
-use its_numbers::{DONE, DescriptionIn, FAULT, HANDLE, NO_FAULT, OUTSIDE, SignalOut};
+use its_numbers::{DONE, FAULT, HANDLE, NO_FAULT, OUTSIDE, SignalOut, TranslatorIn};
 use std::alloc::Global;
 
 // Where the memory stands that is plugged in.
@@ -28,16 +28,17 @@ const COMMANDS: [u64; 8] = [
 
 // A machine of one window, whose frames stand at 0x9000_0000.
 fn made(alloc: Global, handle: &mut Handle) -> u32 {
-    let numbers = DescriptionIn {
+    let framed = TranslatorIn {
         has_frames: 1,
         frames: 0x9000_0000,
-        ..NUMBERS
+        ..TRANSLATORS[0]
     };
     let mut fault = NO_FAULT;
     its_new(
         handle,
         alloc,
-        &numbers,
+        &NUMBERS,
+        &[framed],
         &WINDOWS,
         &PENDING,
         &[],
@@ -71,13 +72,13 @@ fn map_there(alloc: Global, handle: &mut Handle) -> (u32, u32) {
         its_write_memory(handle, alloc, at, &word.to_le_bytes());
         at = at.wrapping_add(8);
     }
-    its_write_register(handle, alloc, 0x88, 8, 0xa0);
+    its_write_register(handle, alloc, 0, 0x88, 8, 0xa0);
     (stepped(alloc, handle), stepped(alloc, handle))
 }
 
 fn stepped(alloc: Global, handle: &mut Handle) -> u32 {
     let mut step = NO_STEP;
-    its_step(handle, alloc, &mut step);
+    its_step(handle, alloc, 0, &mut step);
     step.outcome
 }
 
@@ -94,7 +95,7 @@ fn signalled(alloc: Global, handle: &mut Handle) -> (u32, u32, u32) {
         vcpu: 9,
         intid: 9,
     };
-    its_signal(handle, alloc, 8, 2, &mut out);
+    its_signal(handle, alloc, 0, 8, 2, &mut out);
     (out.cause, out.vcpu, out.intid)
 }
 

@@ -1,5 +1,5 @@
 //! Where a window may lie that guest memory gets, and the list that has it too.
-ghost use Rattle.std.specs.Prelude.{◌≡◌, IfOk};
+ghost use Rattle.std.specs.Prelude.{◌≡◌, ◌≤◌, IfOk, length};
 ghost use Rattle.its_plain.specs.Doorbells.{meets_frames as meets};
 ghost use Rattle.its_c.specs.Windows as spec;
 
@@ -10,14 +10,18 @@ use std::alloc::{AllocError, Global};
 // How many bytes the two frames of a translator have.
 const FRAMES: u64 = 0x2_0000;
 
-/// Whether it shares a byte with the frames of one of these. One with no byte does where it lies
-/// after the first byte of the frames.
-pub fn meets_any(translators: &[Its], base: Addr, len: u64) -> bool
-    ensures { result ≡ spec.meets_any translators.now (base.0, len) }
+/// The first of these with whose frames it shares a byte. One with no byte does where it lies after
+/// the first byte of the frames.
+pub fn met(translators: &[Its], base: Addr, len: u64) -> Option<u8>
+    requires { length translators.now ≤ 2 }
+    ensures { result ≡ spec.met 0 (base.0, len) translators.now }
 {
-    translators
-        .iter()
-        .any(|translator| meets_frames(translator, base, len))
+    for (its, translator) in translators.iter().enumerate() {
+        if meets_frames(translator, base, len) {
+            return Some(its as u8);
+        }
+    }
+    None
 }
 
 fn meets_frames(translator: &Its, base: Addr, len: u64) -> bool

@@ -38,17 +38,18 @@ same_count false n same = absurd (next_apart n same)
 
 -- ---- a translator that is replaced
 
-at_set : {X : Type 0} (P : X → Type 0) (xs : List X) (i : ℕ) (x other : X) → P x → P (slice_index_or xs i other) → P (slice_index_or (slice_set xs i x) i other)
-at_set P [] zero x other new old = old
-at_set P [] (suc i) x other new old = old
-at_set P (y ∷ ys) zero x other new old = new
-at_set P (y ∷ ys) (suc i) x other new old = at_set P ys i x other new old
+-- where its maps are the same, so are those of each
+at_set : (ts : List Translator) (i j : ℕ) (t : Translator) → t.maps ≡ (slice_index_or ts i no_translator).maps
+    → (slice_index_or (slice_set ts i t) j no_translator).maps ≡ (slice_index_or ts j no_translator).maps
+at_set [] zero j t same = refl
+at_set [] (suc i) j t same = refl
+at_set (y ∷ ys) zero zero t same = same
+at_set (y ∷ ys) zero (suc j) t same = refl
+at_set (y ∷ ys) (suc i) zero t same = refl
+at_set (y ∷ ys) (suc i) (suc j) t same = at_set ys i j t same
 
-abbrev HasMaps : Maps → Translator → Type 0
-HasMaps m t = t.maps ≡ m
-
-gone_on : (u : Plain) (i : ℕ) → maps_of (went_on i u) i ≡ maps_of u i
-gone_on u i = at_set (HasMaps (maps_of u i)) u.translators i (record (translator u i) { regs = advanced (regs_of u i) }) no_translator refl refl
+gone_on : (u : Plain) (i j : ℕ) → maps_of (went_on i u) j ≡ maps_of u j
+gone_on u i j = at_set u.translators i j (record (translator u i) { regs = advanced (regs_of u i) }) refl
 
 -- ---- commands
 
@@ -105,20 +106,22 @@ module _ (u : Plain) (i : ℕ) where
 
   -- ---- steps
 
-  left_stays : (c : Command) (r : Result Plain Reason) → (leaves_maps (op_of c) ≡ true → IfOk r (Stay u))
-      → step_leaves_maps (command_reply (op_of c) r) ≡ true → maps_of (went_on i (command_left u r)) i ≡ maps_of u i
-  left_stays c (Ok w) h e = gone_on w i ∙ ap (λ (ts : List Translator). (slice_index_or ts i no_translator).maps) (h e)
-  left_stays c (Err reason) h e = gone_on u i
+  module _ (j : ℕ) where
+    left_stays : (c : Command) (r : Result Plain Reason) → (leaves_maps (op_of c) ≡ true → IfOk r (Stay u))
+        → step_leaves_maps (command_reply (op_of c) r) ≡ true → maps_of (went_on i (command_left u r)) j ≡ maps_of u j
+    left_stays c (Ok w) h e = gone_on w i j ∙ ap (λ (ts : List Translator). (slice_index_or ts j no_translator).maps) (h e)
+    left_stays c (Err reason) h e = gone_on u i j
 
-  met_stays : (o : Option (List ℕ)) → step_leaves_maps (met_reply u i o) ≡ true → maps_of (met_left u i o) i ≡ maps_of u i
-  met_stays None e = refl
-  met_stays (Some bytes) e = left_stays (decoded bytes) (ran u i (decoded bytes)) (ran_stays (decoded bytes)) e
+    met_stays : (o : Option (List ℕ)) → step_leaves_maps (met_reply u i o) ≡ true → maps_of (met_left u i o) j ≡ maps_of u j
+    met_stays None e = refl
+    met_stays (Some bytes) e = left_stays (decoded bytes) (ran u i (decoded bytes)) (ran_stays (decoded bytes)) e
 
-  pub step_stays : step_leaves_maps (step_reply u i) ≡ true → maps_of (step_left u i) i ≡ maps_of u i
-  unfolding step_reply step_left
-  step_stays =
-      elim (is_idle u i) as (λ b. step_leaves_maps (cond b Idle (met_reply u i (next_bytes u i))) ≡ true
-      → maps_of (cond b u (met_left u i (next_bytes u i))) i ≡ maps_of u i) [ true ↦ λ e. refl | false ↦ met_stays (next_bytes u i) ]
+    -- of translator i, and what it leaves of the maps of translator j
+    pub step_stays : step_leaves_maps (step_reply u i) ≡ true → maps_of (step_left u i) j ≡ maps_of u j
+    unfolding step_reply step_left
+    step_stays =
+        elim (is_idle u i) as (λ b. step_leaves_maps (cond b Idle (met_reply u i (next_bytes u i))) ≡ true
+        → maps_of (cond b u (met_left u i (next_bytes u i))) j ≡ maps_of u j) [ true ↦ λ e. refl | false ↦ met_stays (next_bytes u i) ]
 
 -- ---- writes of registers
 
@@ -193,11 +196,12 @@ apart_from : (off : ℕ) → is_no_table off ≡ true → (off < 256) ⊎ (272 �
 apart_from off e =
     elim (or_cases (nat_lt off 256) (nat_le 272 off) e) [ inl below ↦ inl (ltb-true off 256 below) | inr above ↦ inr (leb-true 272 off above) ]
 
-pub write_stays : (u : Plain) (i off size value : ℕ) → is_no_table off ≡ true → maps_of (written u i off size value) i ≡ maps_of u i
+-- of translator i, and what it leaves of the maps of translator j
+pub write_stays : (u : Plain) (i j off size value : ℕ) → is_no_table off ≡ true → maps_of (written u i off size value) j ≡ maps_of u j
 unfolding written
-write_stays u i off size value e =
+write_stays u i j off size value e =
     let t : Translator = translator u i in
     let w : Written = write_reg (regs_of u i) off size value in
-    at_set (HasMaps (maps_of u i)) u.translators i (translator_written u.layout.shape t w) no_translator
+    at_set u.translators i j (translator_written u.layout.shape t w)
     (cond_both (u.layout.shape.linux && has_same_tables t.regs w.regs) t.maps (emptied w.change t.maps) (λ (x : Maps). x ≡ maps_of u i) (λ _. refl)
-    (λ _. reg_stays (maps_of u i) (regs_of u i) off size value (apart_from off e))) refl
+    (λ _. reg_stays (maps_of u i) (regs_of u i) off size value (apart_from off e)))

@@ -29,19 +29,47 @@ region_numbers regions.Config = (7, 0)
 region_numbers (regions.ConfigOf vcpu) = (8, vcpu.0)
 region_numbers (regions.Queue its) = (9, 0)
 
+-- the translator that it is of, or 0
+abbrev pub translator_of : Region → ℕ
+translator_of (regions.Devices its) = its
+translator_of (regions.Level1 its) = its
+translator_of (regions.Page its entry) = its
+translator_of (regions.Collections its) = its
+translator_of (regions.Itt its device) = its
+translator_of (regions.Pending vcpu) = 0
+translator_of regions.Config = 0
+translator_of (regions.ConfigOf vcpu) = 0
+translator_of (regions.Queue its) = its
+
 abbrev pub no_save_fault : SaveFaultOut
-no_save_fault = record { kind = 0; device = 0; region = 0; number = 0; other_region = 0; other_number = 0 }
+no_save_fault = record {
+  kind = 0;
+  translator = 0;
+  device = 0;
+  region = 0;
+  number = 0;
+  other_region = 0;
+  other_number = 0;
+  other_translator = 0;
+}
 
 abbrev pub save_fault_out : SaveFault → SaveFaultOut
-save_fault_out (saves.NoPlace its device) = record no_save_fault { kind = 1; device = device.0 }
-save_fault_out (saves.Outside region) = record no_save_fault { kind = 2; region = (region_numbers region).0; number = (region_numbers region).1 }
+save_fault_out (saves.NoPlace its device) = record no_save_fault { kind = 1; translator = its; device = device.0 }
+save_fault_out (saves.Outside region) = record no_save_fault {
+  kind = 2;
+  translator = translator_of region;
+  region = (region_numbers region).0;
+  number = (region_numbers region).1;
+}
 save_fault_out (saves.Overlap region other) = record {
   kind = 3;
+  translator = translator_of region;
   device = 0;
   region = (region_numbers region).0;
   number = (region_numbers region).1;
   other_region = (region_numbers other).0;
   other_number = (region_numbers other).1;
+  other_translator = translator_of other;
 }
 
 -- ---- descriptions, and what is restored
@@ -49,6 +77,7 @@ save_fault_out (saves.Overlap region other) = record {
 abbrev pub no_make_fault : MakeFaultOut
 no_make_fault = record {
   kind = 0;
+  translator = 0;
   vcpu = 0;
   device = 0;
   event = 0;
@@ -90,6 +119,6 @@ make_fault_out made.Windows = record no_make_fault { kind = 1 }
 make_fault_out made.Config = record no_make_fault { kind = 2 }
 make_fault_out (made.Pending vcpu) = record no_make_fault { kind = 3; vcpu = vcpu.0 }
 make_fault_out (made.Bytes number) = record no_make_fault { kind = 4; number = number }
-make_fault_out (made.Frames its) = record no_make_fault { kind = 14; number = its }
+make_fault_out (made.Frames its) = record no_make_fault { kind = 14; translator = its }
 make_fault_out (made.Requesters number) = record no_make_fault { kind = 15; number = number }
-make_fault_out (made.Restore its offence) = restore_fault_out offence
+make_fault_out (made.Restore its offence) = record (restore_fault_out offence) { translator = its }

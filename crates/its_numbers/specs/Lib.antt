@@ -9,4 +9,5 @@ pub mod Mapped
 pub mod Replies
 pub mod Routes
 pub mod Stored
+pub mod Translators
 pub mod Unmade

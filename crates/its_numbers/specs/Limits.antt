@@ -17,9 +17,9 @@ no_limit = 2 ^ 64 - 1
 abbrev pub is_at : ℕ → ℕ → Bool
 is_at limit count = not (limit == no_limit) && nat_le limit count
 
--- the next step maps an event or a device that isn't mapped, where as many are mapped as the limit says, or more
-unfoldable pub is_full : GuestLimits → Plain → Bool
-is_full l u = (is_at l.events (event_count u 0) && adds_event u 0) || (is_at l.devices (device_count u 0) && adds_device u 0)
+-- the next step of a translator maps an event or a device that isn't mapped, where it has as many mapped as the limit says, or more
+unfoldable pub is_full : GuestLimits → Plain → ℕ → Bool
+is_full l u its = (is_at l.events (event_count u its) && adds_event u its) || (is_at l.devices (device_count u its) && adds_device u its)
 
 -- so does a command where this is mapped, if it isn't refused
 unfoldable pub forbids : GuestLimits → Maps → Command → Bool
@@ -29,9 +29,13 @@ forbids l m c = (is_at l.events (length (entries m.events)) && maps_event m c) |
 abbrev pub is_past : ℕ → ℕ → Bool
 is_past limit count = not (limit == no_limit) && nat_lt limit count
 
--- more events or devices are mapped than may be
+-- a translator has more events or devices mapped than may be
+abbrev pub is_over_of : GuestLimits → Plain → ℕ → Bool
+is_over_of l u its = is_past l.events (event_count u its) || is_past l.devices (device_count u its)
+
+-- one of the translators has, where one that isn't there has none
 unfoldable pub is_over : GuestLimits → Plain → Bool
-is_over l u = is_past l.events (event_count u 0) || is_past l.devices (device_count u 0)
+is_over l u = is_over_of l u 0 || is_over_of l u 1
 
 -- it maps more than may be; or memory has a limit, and holds more
 abbrev pub IsTooMuchIn : GuestLimits → Plain → Type 0

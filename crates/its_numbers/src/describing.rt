@@ -1,10 +1,13 @@
 //! The description that numbers stand for.
 ghost use Rattle.std.specs.Prelude.{◌≡◌, true, IfOk, length, map};
+ghost use Rattle.std.specs.List.{list_all};
 ghost use Rattle.its_plain.specs.Machine.{IsDescription, HasTablesFor};
 ghost use Rattle.its_plain.specs.Sound.{IsShape};
 ghost use Rattle.its_numbers.specs.Descriptions as spec;
 
-use crate::numbers::{DescriptionIn, FillIn, RedistributorIn, RequestersIn, WindowIn};
+use crate::numbers::{
+    DescriptionIn, FillIn, RedistributorIn, RequestersIn, TranslatorIn, WindowIn,
+};
 use gicr_regs::{GicrRegisters, GicrValues};
 use gits_regs::RegValues;
 use its_plain::{Desc, Fill, Its, LpiTables, RequesterRanges, Requesters};
@@ -15,15 +18,18 @@ use std::alloc::{AllocError, Global};
 /// and bytes.
 pub fn is_in_range(
     description: &DescriptionIn,
+    translators: &[TranslatorIn],
     pending: usize,
     redistributors: usize,
     fills: &[FillIn],
     bytes: usize,
 ) -> bool
     ensures { result
-        ≡ spec.is_in_range description.now pending redistributors fills.now bytes }
+        ≡ spec.is_in_range description.now translators.now pending redistributors fills.now
+        bytes }
 {
     numbers_in_range(description)
+        && translators_in_range(translators)
         && counts_in_range(description, pending, redistributors)
         && lengths_fit(fills, bytes)
 }
@@ -38,7 +44,21 @@ fn numbers_in_range(description: &DescriptionIn) -> bool
         && description.programmed < 2
         && description.restored < 3
         && description.linux_guest < 2
-        && description.has_frames < 2
+}
+
+fn translators_in_range(translators: &[TranslatorIn]) -> bool
+    ensures { result ≡ spec.translators_in_range translators.now }
+{
+    let count = translators.len();
+    1 <= count && count <= 2 && all_in_range(translators)
+}
+
+fn all_in_range(translators: &[TranslatorIn]) -> bool
+    ensures { result ≡ list_all spec.translator_in_range translators.now }
+{
+    translators
+        .iter()
+        .all(|translator| translator.has_frames < 2)
 }
 
 fn between(least: u32, most: u32, number: u32) -> bool
@@ -78,6 +98,7 @@ fn lengths_fit(fills: &[FillIn], bytes: usize) -> bool
 pub fn description(
     alloc: Global,
     numbers: &DescriptionIn,
+    translators: &[TranslatorIn],
     windows: &[WindowIn],
     pending: &[u64],
     redistributors: &[RedistributorIn],
@@ -86,31 +107,39 @@ pub fn description(
     bytes: &[u8],
 ) -> Result<Desc, AllocError>
     requires numbers { spec.numbers_in_range numbers.now ≡ true }
+    requires translators { spec.translators_in_range translators.now ≡ true }
     requires counts { spec.counts_in_range numbers.now (length pending.now)
         (length redistributors.now) ≡ true }
     requires lengths { spec.lengths_fit fills.now (length bytes.now) ≡ true }
     ensures described { IfOk result IsDescription }
-    ensures one { IfOk result (λ d. length d.translators ≡ 1) }
+    ensures count { IfOk result (λ d. length d.translators ≡ length translators.now) }
     ensures described_by { IfOk result (λ d. d
-        ≡ spec.description_of numbers.now windows.now pending.now redistributors.now
-        requesters.now fills.now bytes.now) }
+        ≡ spec.description_of numbers.now translators.now windows.now pending.now
+        redistributors.now requesters.now fills.now bytes.now) }
 {
     Ok(Desc {
         shape: shape(numbers),
         shards: 1,
-        limits: Limits {
-            stamp_last: 16_777_215,
-            place_last: 1_099_511_627_775,
-        },
+        limits: limits_of(translators.len()),
         windows: Listed::from_vec(windows_of(alloc, windows)?),
         memory_limit: u64::MAX,
         tables: tables(alloc, numbers, pending, redistributors)?,
         fills: fills_of(alloc, fills, bytes)?,
-        translators: translators(alloc, numbers)?,
+        translators: Listed::from_vec(translators_of(alloc, numbers, translators)?),
         requesters: ranges_of(alloc, requesters)?,
         from_kvm: numbers.restored == 2,
         track: false,
     })
+}
+
+// The stamps of two translators have fewer bits.
+fn limits_of(translators: usize) -> Limits
+    ensures { result ≡ spec.limits_of translators }
+{
+    Limits {
+        stamp_last: if translators == 1 { 16_777_215 } else { 4095 },
+        place_last: 1_099_511_627_775,
+    }
 }
 
 fn shape(numbers: &DescriptionIn) -> Shape
@@ -211,25 +240,35 @@ fn fills_of(alloc: Global, fills: &[FillIn], bytes: &[u8]) -> Result<Listed<Fill
     Ok(list)
 }
 
-// The one translator.
-fn translators(alloc: Global, numbers: &DescriptionIn) -> Result<Listed<Its>, AllocError>
-    ensures { IfOk result (λ list. list ≡ spec.translators_of numbers.now) }
+fn translators_of(
+    alloc: Global,
+    numbers: &DescriptionIn,
+    translators: &[TranslatorIn],
+) -> Result<Vec<Its>, AllocError>
+    ensures { IfOk result (λ v. v.items ≡ spec.translators_of numbers.now translators.now) }
 {
-    let mut list = Listed::new(alloc);
-    list.push(Its {
-        restore: restore(numbers),
-        frames: frames(numbers),
-    })?;
-    Ok(list)
+    translators
+        .iter()
+        .map(|given| translator_of(numbers, given))
+        .collect(alloc)
 }
 
-fn frames(numbers: &DescriptionIn) -> Option<Addr>
-    ensures { result ≡ spec.frames_of numbers.now }
+fn translator_of(numbers: &DescriptionIn, given: &TranslatorIn) -> Its
+    ensures { result ≡ spec.translator_of numbers.now given.now }
 {
-    if numbers.has_frames == 0 {
+    Its {
+        restore: restore(numbers, given),
+        frames: frames(given),
+    }
+}
+
+fn frames(given: &TranslatorIn) -> Option<Addr>
+    ensures { result ≡ spec.frames_of given.now }
+{
+    if given.has_frames == 0 {
         None
     } else {
-        Some(Addr(numbers.frames))
+        Some(Addr(given.frames))
     }
 }
 
@@ -253,18 +292,18 @@ fn requesters_of(alloc: Global, requesters: &[RequestersIn]) -> Result<Vec<Reque
         .collect(alloc)
 }
 
-fn restore(numbers: &DescriptionIn) -> Option<RegValues>
-    ensures { result ≡ spec.restore_of numbers.now }
+fn restore(numbers: &DescriptionIn, given: &TranslatorIn) -> Option<RegValues>
+    ensures { result ≡ spec.restore_of numbers.now given.now }
 {
     if numbers.restored == 0 {
         return None;
     }
     Some(RegValues {
-        ctlr: numbers.ctlr,
-        cbaser: numbers.cbaser,
-        creadr: numbers.creadr,
-        cwriter: numbers.cwriter,
-        baser0: numbers.baser0,
-        baser1: numbers.baser1,
+        ctlr: given.ctlr,
+        cbaser: given.cbaser,
+        creadr: given.creadr,
+        cwriter: given.cwriter,
+        baser0: given.baser0,
+        baser1: given.baser1,
     })
 }

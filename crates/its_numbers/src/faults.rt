@@ -12,6 +12,8 @@ pub struct SaveFaultOut {
     /// 1: the level-1 entry of `device` isn't valid. 2: `region` doesn't lie in one window. 3:
     /// `region` and `other_region` share a byte, and one of them is written.
     pub kind: u32,
+    /// The translator, of kind 1 and of a region that is a translator's.
+    pub translator: u32,
     /// A DeviceID, of kind 1.
     pub device: u32,
     /// 1 the flat device table, 2 the first level of a device table, 3 a page of its second level,
@@ -24,6 +26,8 @@ pub struct SaveFaultOut {
     pub other_region: u32,
     /// Its number, as `number` is that of `region`.
     pub other_number: u32,
+    /// The translator that it is of, if it is a translator's.
+    pub other_translator: u32,
 }
 
 /// Why a description makes no machine: the first that applies. Numbers that a kind doesn't name are
@@ -41,9 +45,11 @@ pub struct MakeFaultOut {
     /// the register at `register_offset` can't stand beside the others; 12 `collection` has no
     /// place in the table; 13 a table of the redistributor of `vcpu` doesn't lie in one window.
     ///
-    /// 14 the frames of translator `number` end past 2^52 or share a byte with a window; 15 element
-    /// `number` of the requesters is out of range or meets another.
+    /// 14 the frames of `translator` end past 2^52, or share a byte with a window or with the other
+    /// frames; 15 element `number` of the requesters is out of range or meets another.
     pub kind: u32,
+    /// The translator whose restore failed, or whose frames lie where they cannot.
+    pub translator: u32,
     /// The number of a virtual processor.
     pub vcpu: u32,
     /// A DeviceID.
@@ -62,13 +68,14 @@ pub struct MakeFaultOut {
     pub distance: u32,
     /// In bytes, from the beginning of the translator's control frame.
     pub register_offset: u32,
-    /// Of kind 4 a fill, counted from 0; of kind 9 a processor's number as the entry has it.
+    /// Of kind 4 a fill, and of 15 an element, counted from 0; of kind 9 a processor's number as
+    /// the entry has it.
     pub number: u64,
     /// A guest physical address.
     pub address: u64,
 }
 
-// A region's kind, and its number among those of the kind. There is one translator.
+// A region's kind, and its number among those of the kind.
 fn region_numbers(region: Region) -> (u32, u32)
     ensures { result ≡ spec.region_numbers region }
 {
@@ -85,28 +92,51 @@ fn region_numbers(region: Region) -> (u32, u32)
     }
 }
 
+// The translator that a region is of, or 0.
+fn translator_of(region: Region) -> u32
+    ensures { result ≡ spec.translator_of region }
+{
+    match region {
+        Region::Devices(its) => u32::from(its),
+        Region::Level1(its) => u32::from(its),
+        Region::Page(its, _) => u32::from(its),
+        Region::Collections(its) => u32::from(its),
+        Region::Itt(its, _) => u32::from(its),
+        Region::Queue(its) => u32::from(its),
+        Region::Pending(_) | Region::Config | Region::ConfigOf(_) => 0,
+    }
+}
+
 /// Why a state can't be saved.
 pub fn save_fault_out(fault: SaveFault) -> SaveFaultOut
     ensures { result ≡ spec.save_fault_out fault }
 {
     let mut out = SaveFaultOut {
         kind: 1,
+        translator: 0,
         device: 0,
         region: 0,
         number: 0,
         other_region: 0,
         other_number: 0,
+        other_translator: 0,
     };
     match fault {
-        SaveFault::NoPlace(_, device) => out.device = device.0,
+        SaveFault::NoPlace(its, device) => {
+            out.translator = u32::from(its);
+            out.device = device.0;
+        }
         SaveFault::Outside(region) => {
             out.kind = 2;
+            out.translator = translator_of(region);
             (out.region, out.number) = region_numbers(region);
         }
         SaveFault::Overlap(region, other) => {
             out.kind = 3;
+            out.translator = translator_of(region);
             (out.region, out.number) = region_numbers(region);
             (out.other_region, out.other_number) = region_numbers(other);
+            out.other_translator = translator_of(other);
         }
     }
     out
@@ -115,6 +145,7 @@ pub fn save_fault_out(fault: SaveFault) -> SaveFaultOut
 /// What no fault tells.
 pub const NO_FAULT: MakeFaultOut = MakeFaultOut {
     kind: 0,
+    translator: 0,
     vcpu: 0,
     device: 0,
     event: 0,
@@ -153,7 +184,7 @@ pub fn make_fault_out(fault: DescFault) -> MakeFaultOut
         },
         DescFault::Frames(its) => MakeFaultOut {
             kind: 14,
-            number: u64::from(its),
+            translator: u32::from(its),
             ..NO_FAULT
         },
         DescFault::Requesters(number) => MakeFaultOut {
@@ -161,7 +192,10 @@ pub fn make_fault_out(fault: DescFault) -> MakeFaultOut
             number,
             ..NO_FAULT
         },
-        DescFault::Restore(_, offence) => restore_fault_out(offence),
+        DescFault::Restore(its, offence) => MakeFaultOut {
+            translator: u32::from(its),
+            ..restore_fault_out(offence)
+        },
     }
 }
 

@@ -30,7 +30,7 @@ pub use loose::Loose;
 pub use mapped::{
     CollectionOut, DeviceOut, MappingOut, put_collections, put_devices, put_mappings,
 };
-pub use numbers::{DescriptionIn, FillIn, RedistributorIn, RequestersIn, WindowIn};
+pub use numbers::{DescriptionIn, FillIn, RedistributorIn, RequestersIn, TranslatorIn, WindowIn};
 pub use replies::{AckOut, DmaOut, SignalOut, StepOut, ack_out, dma_out, signal_out, step_out};
 pub use room::{has_room, is_within, missing, missing_in};
 pub use routes::{is_no_table, next_count, step_leaves_maps};

@@ -10,12 +10,13 @@ use its_command::Command;
 use its_maps::{LookUp, Maps};
 use its_types::{DeviceId, EventId};
 
-/// How much a guest may take. At 2^64 - 1 there is no limit.
+/// How much a guest may take. At 2^64 - 1 there is no limit. Events and devices are counted for
+/// each translator by itself.
 #[derive(Clone, Copy)]
 pub struct GuestLimits {
-    /// How many events may be mapped.
+    /// How many events a translator may map.
     pub events: u64,
-    /// How many devices may be mapped.
+    /// How many devices a translator may map.
     pub devices: u64,
     /// How many bytes of guest memory may be held, in pages of 64 KiB.
     pub memory: u64,

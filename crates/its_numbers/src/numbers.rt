@@ -15,17 +15,29 @@ pub struct DescriptionIn {
     /// 0: LPIs are on at the configuration table and the pending tables given. 1: the guest
     /// programs the LPI registers of the redistributors.
     pub programmed: u32,
-    /// 0: the translator is at reset. 1: it is restored from guest memory and the registers below.
+    /// 0: all translators are at reset. 1: all are restored from guest memory and their registers.
     /// 2: so, and KVM saved the tables: a pending bit counts only where an event leads its LPI to
     /// that virtual processor, since KVM leaves bits behind where LPIs were before they moved.
     pub restored: u32,
     /// 1: the machine has what a Linux guest counts on. 0: it hasn't.
     pub linux_guest: u32,
-    /// 1: devices write by address, and `frames` says where. 0: they don't.
-    pub has_frames: u32,
     /// Where the configuration table is, if the guest doesn't program it.
     pub config: u64,
-    /// Where the translator's two frames of 64 KiB are, if devices write by address.
+    /// How many events each translator may map; 2^64 - 1: as many as there are.
+    pub event_limit: u64,
+    /// How many devices each translator may map; 2^64 - 1: as many as there are.
+    pub device_limit: u64,
+    /// How many bytes of guest memory may be held; 2^64 - 1: as many as are written.
+    pub memory_limit: u64,
+}
+
+/// A translator of a machine, of which there are one or two.
+#[repr(C)]
+#[derive(Clone, Copy)]
+pub struct TranslatorIn {
+    /// 1: devices write to it by address, and `frames` says where. 0: they don't.
+    pub has_frames: u32,
+    /// Where its two frames of 64 KiB are, if devices write by address.
     pub frames: u64,
     /// The registers to restore: GITS_CTLR, of which bit 0 counts.
     pub ctlr: u64,
@@ -39,12 +51,6 @@ pub struct DescriptionIn {
     pub baser0: u64,
     /// GITS_BASER1, of the collection table.
     pub baser1: u64,
-    /// How many events may be mapped; 2^64 - 1: as many as there are.
-    pub event_limit: u64,
-    /// How many devices may be mapped; 2^64 - 1: as many as there are.
-    pub device_limit: u64,
-    /// How many bytes of guest memory may be held; 2^64 - 1: as many as are written.
-    pub memory_limit: u64,
 }
 
 /// A window of guest memory, which is all zeros at first.

@@ -9,6 +9,7 @@ use Rattle.its_c.proofs.commands.step.Goals as goal
 pub returns-in-Ok-clause-routes : goal.returns-in-Ok-clause-routes
 returns-in-Ok-clause-routes c =
     let h = c.args.kept.now in
-    counts h c.step.new.self c.count_step.new.self (step_left h.machine 0) (step_leaves_maps c.in-Ok.reply) (step_leaves_maps (step_reply h.machine 0))
+    let its = c.args.translator in
+    counts h c.step.new.self c.count_step.new.self (step_left h.machine its) (step_leaves_maps c.in-Ok.reply) (step_leaves_maps (step_reply h.machine its))
     c.in-Ok.ensures.left (ap (λ (k : Held). k.machine) c.count_step.ensures) (ap (λ (k : Held). k.routes) c.count_step.ensures)
-    (ap step_leaves_maps c.in-Ok.ensures.reply) (step_stays h.machine 0)
+    (ap step_leaves_maps c.in-Ok.ensures.reply) (λ leaves j. step_stays h.machine its j leaves)

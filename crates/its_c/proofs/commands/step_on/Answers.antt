@@ -11,6 +11,6 @@ pub returns-in-Ok-clause-routes : goal.returns-in-Ok-clause-routes
 returns-in-Ok-clause-routes c =
     let h = c.args.kept.now in
     let x = on c.args.memory.now h.machine in
-    counts h c.step_on.new.self c.count_step.new.self (left_on c.args.memory.now h.machine 0) (step_leaves_maps c.in-Ok.reply)
-    (step_leaves_maps (step_reply x 0)) c.in-Ok.ensures.left (ap (λ (k : Held). k.machine) c.count_step.ensures)
-    (ap (λ (k : Held). k.routes) c.count_step.ensures) (ap step_leaves_maps c.in-Ok.ensures.reply) (step_stays x 0)
+    counts h c.step_on.new.self c.count_step.new.self (left_on c.args.memory.now h.machine c.args.its) (step_leaves_maps c.in-Ok.reply)
+    (step_leaves_maps (step_reply x c.args.its)) c.in-Ok.ensures.left (ap (λ (k : Held). k.machine) c.count_step.ensures)
+    (ap (λ (k : Held). k.routes) c.count_step.ensures) (ap step_leaves_maps c.in-Ok.ensures.reply) (λ leaves j. step_stays x c.args.its j leaves)
