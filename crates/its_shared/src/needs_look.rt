@@ -78,6 +78,7 @@ fn seen_with(
     memory: Box<GuestMemory>,
 ) -> Result<Placed<Vec<(Addr, u64)>>, Unseen>
     requires of { IsOf machine.now pass.old }
+    requires its { its < translator_count (setup machine.now) }
     requires held { (view pass.old).held
         ≡ out part.Mem (content.Mem memory.value.memory memory.value.track)
         ∷ maps_held its maps.value ∷ [] }

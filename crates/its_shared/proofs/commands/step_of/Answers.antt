@@ -9,7 +9,7 @@ use Rattle.cmd_engine.specs.declared.stepped.Stepped.{Stepped}
 use Rattle.its_shared.specs.Answers.{Answers}
 use Rattle.its_shared.specs.Asked as asked
 use Rattle.its_shared.specs.Concerns.{untold_answer, NamesConcerned}
-use Rattle.its_shared.specs.Knowing.{Known}
+use Rattle.its_shared.specs.Knowing.{Known, setting}
 use Rattle.its_shared.specs.Limits.{KeepsWithin}
 use Rattle.its_shared.proofs.Concerning.{untold_answers, untold_code, untold_place, names_words}
 use Rattle.its_shared.proofs.Counted.{counts_so, keeps_routes, stays_stepped}
@@ -53,6 +53,10 @@ returns-clause-within c =
     steps_within c.args.its k c.count_step.new.self c.tell_step.result c.step-answer.result c.tell_step.ensures.code
     (subst (λ (w : View). KeepsWithin k.limits c.args.its k.view.setup.start w.seen c.step-answer.result) (sym (ap (λ (z : Known). z.view) (c.count_step.ensures c.args.its)))
     c.step-answer.ensures.within)
+
+pub returns-clause-setting : goal.returns-clause-setting
+returns-clause-setting c =
+    ap (λ (k : Known). setting k) (c.count_step.ensures c.args.its) ∙ ap (λ (b : Beside). (b.0, b.1)) c.step-answer.ensures.beside
 
 -- ---- whom it concerned
 
