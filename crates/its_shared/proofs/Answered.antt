@@ -121,27 +121,27 @@ of_dma d req addr bytes v w (Err unheld.NoMemory) t = (t.1.stays, t.0)
 of_dma d req addr bytes v w (Err unheld.Full) t = (t.1.stays, t.0)
 
 -- a step
-pub of_step : (P : Part → Type 0) (v w : View) (r : Tried Stepped) → TriesOnce P v asked.step step_said w r
-    → Answers asked.step step_said v w (answer_of_tried r)
-of_step P v w (tried.Done p) t = t.0.placed
-of_step P v w (tried.Busy b) t = (t.busy.stays, inl t.busy.out)
-of_step P v w (tried.Raced r) t = (t.stays, inl t.why.out)
-of_step P v w tried.Late t = (t.stays, inr t.why.1)
-of_step P v w tried.Spent t = (t.stays, t.why.1)
-of_step P v w tried.NoMemory t = (t.stays, t.why.1)
-of_step P v w tried.Full t = (t.stays, tt)
+pub of_step : (its : ℕ) (P : Part → Type 0) (v w : View) (r : Tried Stepped) → TriesOnce P v (asked.step its) step_said w r
+    → Answers (asked.step its) step_said v w (answer_of_tried r)
+of_step its P v w (tried.Done p) t = t.0.placed
+of_step its P v w (tried.Busy b) t = (t.busy.stays, inl t.busy.out)
+of_step its P v w (tried.Raced r) t = (t.stays, inl t.why.out)
+of_step its P v w tried.Late t = (t.stays, inr t.why.1)
+of_step its P v w tried.Spent t = (t.stays, t.why.1)
+of_step its P v w tried.NoMemory t = (t.stays, t.why.1)
+of_step its P v w tried.Full t = (t.stays, tt)
 
 -- a write of the translator's registers
-pub of_write_register : (offset size value : ℕ) (P : Part → Type 0) (v w : View) (r : Tried (Unit {0}))
-    → TriesOnce P v (asked.write_register offset size value) (λ _. reply.Ok) w r
-    → Answers (asked.write_register offset size value) (λ _. reply.Ok) v w (answer_of_tried r)
-of_write_register offset size value P v w (tried.Done p) t = t.0.placed
-of_write_register offset size value P v w (tried.Busy b) t = (t.busy.stays, inl t.busy.out)
-of_write_register offset size value P v w (tried.Raced r) t = (t.stays, inl t.why.out)
-of_write_register offset size value P v w tried.Late t = (t.stays, inr t.why.1)
-of_write_register offset size value P v w tried.Spent t = (t.stays, t.why.1)
-of_write_register offset size value P v w tried.NoMemory t = (t.stays, t.why.1)
-of_write_register offset size value P v w tried.Full t = absurd t.why.1
+pub of_write_register : (its offset size value : ℕ) (P : Part → Type 0) (v w : View) (r : Tried (Unit {0}))
+    → TriesOnce P v (asked.write_register its offset size value) (λ _. reply.Ok) w r
+    → Answers (asked.write_register its offset size value) (λ _. reply.Ok) v w (answer_of_tried r)
+of_write_register its offset size value P v w (tried.Done p) t = t.0.placed
+of_write_register its offset size value P v w (tried.Busy b) t = (t.busy.stays, inl t.busy.out)
+of_write_register its offset size value P v w (tried.Raced r) t = (t.stays, inl t.why.out)
+of_write_register its offset size value P v w tried.Late t = (t.stays, inr t.why.1)
+of_write_register its offset size value P v w tried.Spent t = (t.stays, t.why.1)
+of_write_register its offset size value P v w tried.NoMemory t = (t.stays, t.why.1)
+of_write_register its offset size value P v w tried.Full t = absurd t.why.1
 
 -- a save
 of_save_made : (v w : View) (a : Attempt (Result (Unit {0}) SaveFault)) → TriesSave v w a → Answers call.Save save_reply v w (answer_of a)

@@ -20,25 +20,25 @@ use Rattle.its_shared.specs.declared.answer.Answer.{Answer}
 use Rattle.its_shared.specs.declared.answer.Answer.TheVariants.{Made, Busy, Spent, NoMemory, Full}
 
 -- what a port says of a try
-pub names_concerned : (start : Plain) (seen : List Entry) (t : Tried Stepped) → TellsOthers start 0 seen t → TellsConcerned start 0 seen t
-    → NamesConcerned start seen (answer_of_tried t)
-names_concerned start seen (tried.Done p) others named =
+pub names_concerned : (its : ℕ) (start : Plain) (seen : List Entry) (t : Tried Stepped) → TellsOthers start its seen t → TellsConcerned start its seen t
+    → NamesConcerned its start seen (answer_of_tried t)
+names_concerned its start seen (tried.Done p) others named =
     λ before last is. record { others = others before last is; named = named before last is }
-names_concerned start seen (tried.Busy b) others named = tt
-names_concerned start seen (tried.Raced r) others named = tt
-names_concerned start seen tried.Late others named = tt
-names_concerned start seen tried.Spent others named = tt
-names_concerned start seen tried.NoMemory others named = tt
-names_concerned start seen tried.Full others named = tt
+names_concerned its start seen (tried.Busy b) others named = tt
+names_concerned its start seen (tried.Raced r) others named = tt
+names_concerned its start seen tried.Late others named = tt
+names_concerned its start seen tried.Spent others named = tt
+names_concerned its start seen tried.NoMemory others named = tt
+names_concerned its start seen tried.Full others named = tt
 
 -- the reply alone is an answer of the same call, with the same number
-pub untold_answers : (v w : View) (a : Answer Stepped) → Answers asked.step step_said v w a
-    → Answers asked.step (λ (k : StepReply). reply.Step k) v w (untold_answer a)
-untold_answers v w (Made p) t = t
-untold_answers v w Busy t = t
-untold_answers v w Spent t = t
-untold_answers v w NoMemory t = t
-untold_answers v w Full t = t
+pub untold_answers : (its : ℕ) (v w : View) (a : Answer Stepped) → Answers (asked.step its) step_said v w a
+    → Answers (asked.step its) (λ (k : StepReply). reply.Step k) v w (untold_answer a)
+untold_answers its v w (Made p) t = t
+untold_answers its v w Busy t = t
+untold_answers its v w Spent t = t
+untold_answers its v w NoMemory t = t
+untold_answers its v w Full t = t
 
 pub untold_code : (a : Answer Stepped) → code_of is_done a ≡ code_of is_done (untold_answer a)
 untold_code (Made p) = refl
@@ -75,10 +75,10 @@ no_memory_apart e = cc
 full_apart : codes.full ≡ codes.done → ⊥
 full_apart e = cc
 
-module _ (start : Plain) (seen : List Entry) (words : List ℕ) where
+module _ (its : ℕ) (start : Plain) (seen : List Entry) (words : List ℕ) where
   -- the bits are those of whom it concerned
-  pub names_words : (a : Answer Stepped) (code : ℕ) → code ≡ code_of is_done a → NamesConcerned start seen a → HaveBitsOf words a → code ≡ codes.done
-      → BeforeLast (λ u. UnconcernedStay words u × AreConcerned words u) start seen
+  pub names_words : (a : Answer Stepped) (code : ℕ) → code ≡ code_of is_done a → NamesConcerned its start seen a → HaveBitsOf words a → code ≡ codes.done
+      → BeforeLast (λ u. UnconcernedStay words its u × AreConcerned words its u) start seen
   names_words (Made p) code is names bits done = λ before last eq. (
     λ vcpu below clear. (names before last eq).others vcpu (sym (bits vcpu below) ∙ clear),
     λ vcpu below set. (names before last eq).named vcpu (sym (bits vcpu below) ∙ set),

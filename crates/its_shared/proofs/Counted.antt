@@ -98,12 +98,12 @@ counts_so c f k p l code Full t = none_made k p l code codes.full t.1 t.2 t.3 t.
 
 -- a call that is answered so, and isn't counted, leaves the maps
 abbrev Stays : Call → Type 0
-Stays c = (u : Plain) (r : Reply) → r ≡ (answer u c).0 → leaves_maps c r ≡ true → maps_of (answer u c).1 0 ≡ maps_of u 0
+Stays c = (u : Plain) (r : Reply) → r ≡ (answer u c).0 → leaves_maps c r ≡ true → (j : ℕ) → maps_of (answer u c).1 j ≡ maps_of u j
 
 pub keeps_routes : {T : Type 0} (c : Call) (f : T → Reply) (k p l : Known) (code : ℕ) (a : Answer T) → Stays c → IsCounted c f k p l code a
     → KeepsRoutes k l code
 keeps_routes c f k p l code (Made x) stays t =
-    λ d same before last eq.
+    λ d same before last eq j.
     let start : Plain = k.view.setup.start in
     let e : Entry = entry k.view.number c (f x.reply) in
     let is : e ≡ last = is_last c f k p l x before last t.0 t.3 eq in
@@ -111,19 +111,19 @@ keeps_routes c f k p l code (Made x) stays t =
     let legal : IsLegal start (before ++ e ∷ []) = subst (IsLegal start) (sym (ap (λ (z : Known). z.view.seen) t.3) ∙ whole) t.0.legal in
     let routes : l.routes ≡ counted (leaves_maps c (f x.reply)) k.routes =
     ap (λ (z : Known). z.routes) t.3 ∙ ap (λ n. counted (leaves_maps c (f x.reply)) n) t.1 in
-    ap (λ (h : List Entry). maps_of (after start h) 0) whole
-    ∙ (ap (λ (u : Plain). maps_of u 0) (after_snoc start before e)
+    ap (λ (h : List Entry). maps_of (after start h) j) whole
+    ∙ (ap (λ (u : Plain). maps_of u j) (after_snoc start before e)
     ∙ stays (after start before) (f x.reply) (last_legal start before e legal)
-    (same_count (leaves_maps c (f x.reply)) k.routes (sym routes ∙ same)))
+    (same_count (leaves_maps c (f x.reply)) k.routes (sym routes ∙ same)) j)
 keeps_routes c f k p l code Busy stays t = λ d same before last eq. absurd (busy_apart (sym t.4 ∙ d))
 keeps_routes c f k p l code Spent stays t = λ d same before last eq. absurd (spent_apart (sym t.4 ∙ d))
 keeps_routes c f k p l code NoMemory stays t = λ d same before last eq. absurd (no_memory_apart (sym t.4 ∙ d))
 keeps_routes c f k p l code Full stays t = λ d same before last eq. absurd (full_apart (sym t.4 ∙ d))
 
-pub stays_stepped : Stays asked.step
+pub stays_stepped : (its : ℕ) → Stays (asked.step its)
 unfolding reply_of left
-stays_stepped u r is leaves = step_stays u 0 (ap reply_leaves_maps (sym is) ∙ leaves)
+stays_stepped its u r is leaves j = step_stays u its j (ap reply_leaves_maps (sym is) ∙ leaves)
 
-pub stays_written : (off size value : ℕ) → Stays (asked.write_register off size value)
+pub stays_written : (its off size value : ℕ) → Stays (asked.write_register its off size value)
 unfolding left
-stays_written off size value u r is leaves = write_stays u 0 off size value leaves
+stays_written its off size value u r is leaves j = write_stays u its j off size value leaves

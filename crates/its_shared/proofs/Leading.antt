@@ -29,30 +29,30 @@ both_mapped None e x y is = absurd cc
 both_mapped (Some d) None x y is = absurd cc
 both_mapped (Some d) (Some e) x y is = (cc, cc)
 
-module _ (m : Maps) (dev ev : ℕ) (u : Plain) (at : maps_of u 0 ≡ m) where
-  pub to_no_device : looked_up m dev ev ≡ look_up.NoDevice → destination u 0 dev ev ≡ NoDevice
+module _ (m : Maps) (dev ev : ℕ) (u : Plain) (its : ℕ) (at : maps_of u its ≡ m) where
+  pub to_no_device : looked_up m dev ev ≡ look_up.NoDevice → destination u its dev ev ≡ NoDevice
   unfolding destination
   to_no_device is =
-      ap (λ (x : Maps). of_device u 0 dev ev (device_of x dev)) at
-      ∙ ap (of_device u 0 dev ev) (no_device (device_of m dev) (event_of m dev ev) is)
+      ap (λ (x : Maps). of_device u its dev ev (device_of x dev)) at
+      ∙ ap (of_device u its dev ev) (no_device (device_of m dev) (event_of m dev ev) is)
 
-  by_event : (d : Device) (o : Option Event) → (device_of m dev ≡ Some d) × (event_of m dev ev ≡ o) → destination u 0 dev ev ≡ of_event u 0 o
+  by_event : (d : Device) (o : Option Event) → (device_of m dev ≡ Some d) × (event_of m dev ev ≡ o) → destination u its dev ev ≡ of_event u its o
   unfolding destination
   by_event d o is =
-      ap (λ (x : Maps). of_device u 0 dev ev (device_of x dev)) at ∙ ap (of_device u 0 dev ev) is.0
-      ∙ ap (λ (x : Maps). of_event u 0 (event_of x dev ev)) at ∙ ap (of_event u 0) is.1
+      ap (λ (x : Maps). of_device u its dev ev (device_of x dev)) at ∙ ap (of_device u its dev ev) is.0
+      ∙ ap (λ (x : Maps). of_event u its (event_of x dev ev)) at ∙ ap (of_event u its) is.1
 
-  pub to_no_event : (d : Device) → looked_up m dev ev ≡ look_up.NoEvent d → destination u 0 dev ev ≡ NoEvent
+  pub to_no_event : (d : Device) → looked_up m dev ev ≡ look_up.NoEvent d → destination u its dev ev ≡ NoEvent
   to_no_event d is = by_event d None (no_event (device_of m dev) (event_of m dev ev) d is)
 
   pub to_target : (d : Device) (event : Event) (o : Option Vcpu) → looked_up m dev ev ≡ look_up.Mapped d event → o ≡ collection_of m event.icid.0
-      → destination u 0 dev ev ≡ of_target u event o
+      → destination u its dev ev ≡ of_target u event o
   to_target d event o is to =
       by_event d (Some event) (both_mapped (device_of m dev) (event_of m dev ev) d event is)
       ∙ ap (λ (x : Maps). of_target u event (collection_of x event.icid.0)) at ∙ ap (of_target u event) (sym to)
 
 -- a sound machine has the virtual processor that a collection goes to
-pub target_there : (s : Setup) (t : Translator) (icid : ℕ) (vcpu : Vcpu) → HasStood s (part.Maps 0) (MapsContent t) → collection_of t.maps icid ≡ Some vcpu
+pub target_there : (s : Setup) (its : ℕ) (t : Translator) (icid : ℕ) (vcpu : Vcpu) → HasStood s (part.Maps its) (MapsContent t) → collection_of t.maps icid ≡ Some vcpu
     → vcpu.0 < vcpu_count s
-target_there s t icid vcpu stood goes =
-    subst (λ l. vcpu.0 < l.shape.vcpus) (sym stood.machine.layout) ((stood.machine.sound.translators 0 t stood.right).collections icid vcpu goes).target
+target_there s its t icid vcpu stood goes =
+    subst (λ l. vcpu.0 < l.shape.vcpus) (sym stood.machine.layout) ((stood.machine.sound.translators its t stood.right).collections icid vcpu goes).target

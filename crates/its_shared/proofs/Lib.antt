@@ -12,3 +12,4 @@ pub mod Limiting
 pub mod Rooted
 pub mod Counted
 pub mod Concerning
+pub mod Packing

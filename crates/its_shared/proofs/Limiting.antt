@@ -35,51 +35,51 @@ shared : (e d a m n : Bool) → (a && ((e && m) || (d && n))) ≡ ((e && (a && m
 shared e d true m n = refl
 shared e d false m n = sym (no_or e d)
 
-module _ (l : GuestLimits) (u : Plain) where
+module _ (l : GuestLimits) (u : Plain) (its : ℕ) where
   abbrev e : Bool
-  e = is_at l.events (event_count u 0)
+  e = is_at l.events (event_count u its)
 
   abbrev d : Bool
-  d = is_at l.devices (device_count u 0)
+  d = is_at l.devices (device_count u its)
 
-  met : (bytes : Option (List ℕ)) → met_forbidden (λ m c. forbids l m c) u 0 bytes ≡ ((e && met_adds NewEvent u 0 bytes) || (d && met_adds NewDevice u 0 bytes))
+  met : (bytes : Option (List ℕ)) → met_forbidden (λ m c. forbids l m c) u its bytes ≡ ((e && met_adds NewEvent u its bytes) || (d && met_adds NewDevice u its bytes))
   unfolding forbids
   met None = sym (no_or e d)
-  met (Some bytes) = shared e d (is_ok (ran u 0 (decoded bytes))) (maps_event (maps_of u 0) (decoded bytes)) (maps_device (maps_of u 0) (decoded bytes))
+  met (Some bytes) = shared e d (is_ok (ran u its (decoded bytes))) (maps_event (maps_of u its) (decoded bytes)) (maps_device (maps_of u its) (decoded bytes))
 
-  pub full_is : is_forbidden (λ m c. forbids l m c) u 0 ≡ is_full l u
+  pub full_is : is_forbidden (λ m c. forbids l m c) u its ≡ is_full l u its
   unfolding is_forbidden is_full step_adds
-  full_is = ap (λ (b : Bool). not (is_idle u 0) && b) (met (next_bytes u 0))
-      ∙ shared e d (not (is_idle u 0)) (met_adds NewEvent u 0 (next_bytes u 0)) (met_adds NewDevice u 0 (next_bytes u 0))
+  full_is = ap (λ (b : Bool). not (is_idle u its) && b) (met (next_bytes u its))
+      ∙ shared e d (not (is_idle u its)) (met_adds NewEvent u its (next_bytes u its)) (met_adds NewDevice u its (next_bytes u its))
 
 -- ---- of a try
 
-pub keeps_within : {T : Type 0} (l : GuestLimits) (start : Plain) (seen : List Entry) (t : Tried T) → KeepsTried (λ m c. forbids l m c) start 0 seen t
-    → KeepsWithin l start seen (answer_of_tried t)
-keeps_within l start seen (tried.Done p) keeps = λ before last is. sym (full_is l (after start before)) ∙ keeps before last is
-keeps_within l start seen (tried.Busy b) keeps = tt
-keeps_within l start seen (tried.Raced r) keeps = tt
-keeps_within l start seen tried.Late keeps = tt
-keeps_within l start seen tried.Spent keeps = tt
-keeps_within l start seen tried.NoMemory keeps = tt
-keeps_within l start seen tried.Full keeps = sym (full_is l (after start seen)) ∙ keeps
+pub keeps_within : {T : Type 0} (l : GuestLimits) (its : ℕ) (start : Plain) (seen : List Entry) (t : Tried T) → KeepsTried (λ m c. forbids l m c) start its seen t
+    → KeepsWithin l its start seen (answer_of_tried t)
+keeps_within l its start seen (tried.Done p) keeps = λ before last is. sym (full_is l (after start before) its) ∙ keeps before last is
+keeps_within l its start seen (tried.Busy b) keeps = tt
+keeps_within l its start seen (tried.Raced r) keeps = tt
+keeps_within l its start seen tried.Late keeps = tt
+keeps_within l its start seen tried.Spent keeps = tt
+keeps_within l its start seen tried.NoMemory keeps = tt
+keeps_within l its start seen tried.Full keeps = sym (full_is l (after start seen) its) ∙ keeps
 
 -- ---- as a number
 
-abbrev TellsSo : GuestLimits → Plain → List Entry → ℕ → Type 0
-TellsSo l start seen code = (code ≡ codes.done → HadRoom l start seen) × (code ≡ codes.full → is_full l (after start seen) ≡ true)
+abbrev TellsSo : GuestLimits → ℕ → Plain → List Entry → ℕ → Type 0
+TellsSo l its start seen code = (code ≡ codes.done → HadRoom l its start seen) × (code ≡ codes.full → is_full l (after start seen) its ≡ true)
 
-tells_so : {T : Type 0} (l : GuestLimits) (start : Plain) (seen : List Entry) (a : Answer T) → KeepsWithin l start seen a
-    → TellsSo l start seen (code_of is_done a)
-tells_so l start seen (Made p) keeps = (λ same. keeps, λ same. absurd cc)
-tells_so l start seen Busy keeps = (λ same. absurd cc, λ same. absurd cc)
-tells_so l start seen Spent keeps = (λ same. absurd cc, λ same. absurd cc)
-tells_so l start seen NoMemory keeps = (λ same. absurd cc, λ same. absurd cc)
-tells_so l start seen Full keeps = (λ same. absurd cc, λ same. keeps)
+tells_so : {T : Type 0} (l : GuestLimits) (its : ℕ) (start : Plain) (seen : List Entry) (a : Answer T) → KeepsWithin l its start seen a
+    → TellsSo l its start seen (code_of is_done a)
+tells_so l its start seen (Made p) keeps = (λ same. keeps, λ same. absurd cc)
+tells_so l its start seen Busy keeps = (λ same. absurd cc, λ same. absurd cc)
+tells_so l its start seen Spent keeps = (λ same. absurd cc, λ same. absurd cc)
+tells_so l its start seen NoMemory keeps = (λ same. absurd cc, λ same. absurd cc)
+tells_so l its start seen Full keeps = (λ same. absurd cc, λ same. keeps)
 
-pub steps_within : {T : Type 0} (k l : Known) (code : ℕ) (a : Answer T) → code ≡ code_of is_done a
-    → KeepsWithin k.limits k.view.setup.start l.view.seen a → StepsWithin k l code
-steps_within k l code a is keeps =
-    let so : TellsSo k.limits k.view.setup.start l.view.seen code = subst (TellsSo k.limits k.view.setup.start l.view.seen) (sym is)
-    (tells_so k.limits k.view.setup.start l.view.seen a keeps) in
+pub steps_within : {T : Type 0} (its : ℕ) (k l : Known) (code : ℕ) (a : Answer T) → code ≡ code_of is_done a
+    → KeepsWithin k.limits its k.view.setup.start l.view.seen a → StepsWithin its k l code
+steps_within its k l code a is keeps =
+    let so : TellsSo k.limits its k.view.setup.start l.view.seen code = subst (TellsSo k.limits its k.view.setup.start l.view.seen) (sym is)
+    (tells_so k.limits its k.view.setup.start l.view.seen a keeps) in
     record { made = so.0; full = so.1 }

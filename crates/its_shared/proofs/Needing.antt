@@ -19,7 +19,7 @@ use Rattle.owned_parts.specs.Owned.{conf_or, redistributor_in}
 use Rattle.table_save.specs.Areas.{redistributors_of}
 use Rattle.step_views.specs.Pairs.{all_told, with_stretch}
 use Rattle.step_views.specs.Reads.{reads, met_reads, command_reads, still_reads, byte_read, byte_reads, table_read, table_reads}
-use Rattle.its_shared.specs.Besides.{HasFirst, conf_read}
+use Rattle.its_shared.specs.Besides.{HasParts, conf_read}
 
 -- ---- of a state
 
@@ -42,18 +42,18 @@ module _ (u : Plain) (i : ℕ) where
       ∙ ap (λ (x : Command). all_told ((queue_place (regs_of u i), 32) ∷ [])
       (command_reads u.layout.shape (regs_of u i) (maps_of u i) u.redistributors x)) met.command
 
--- ---- where translator 0 and memory are known
+-- ---- where the translator and memory are known
 
-module _ (u : Plain) (s : Shape) (r : Registers) (m : Maps) (memory : List Window) (has : HasFirst u s r m memory) where
-  pub first_still : (a : StepReply) → MeetsNone r memory a → reads u 0 ≡ still_reads a
-  first_still a none =
-      still_read u 0 a (subst (λ (ws : List Window). MeetsNone (regs_of u 0) ws a) (sym has.memory_is)
+module _ (u : Plain) (i : ℕ) (s : Shape) (r : Registers) (m : Maps) (memory : List Window) (has : HasParts u i s r m memory) where
+  pub still_known : (a : StepReply) → MeetsNone r memory a → reads u i ≡ still_reads a
+  still_known a none =
+      still_read u i a (subst (λ (ws : List Window). MeetsNone (regs_of u i) ws a) (sym has.memory_is)
       (subst (λ (t : Translator). MeetsNone t.regs memory a) (sym has.translator_is) none))
 
-  pub first_met : (c : Command) → MeetsCommand r memory c
-      → reads u 0 ≡ all_told ((queue_place r, 32) ∷ []) (command_reads s r m u.redistributors c)
-  first_met c met =
-      met_read u 0 c (subst (λ (ws : List Window). MeetsCommand (regs_of u 0) ws c) (sym has.memory_is)
+  pub met_known : (c : Command) → MeetsCommand r memory c
+      → reads u i ≡ all_told ((queue_place r, 32) ∷ []) (command_reads s r m u.redistributors c)
+  met_known c met =
+      met_read u i c (subst (λ (ws : List Window). MeetsCommand (regs_of u i) ws c) (sym has.memory_is)
       (subst (λ (t : Translator). MeetsCommand t.regs memory c) (sym has.translator_is) met))
       ∙ (ap (λ (t : Translator). all_told ((queue_place t.regs, 32) ∷ []) (command_reads u.layout.shape t.regs t.maps u.redistributors c)) has.translator_is
       ∙ ap (λ (k : Shape). all_told ((queue_place r, 32) ∷ []) (command_reads k r m u.redistributors c)) has.shape)

@@ -139,8 +139,8 @@ module _ (v u x z : View) (p q : Part) (c : Content) (first : u ≡ took v p c) 
 
 -- ---- what the state has
 
-pub maps_are : (u : Plain) (t : Translator) → slice_get u.translators 0 ≡ Some t → maps_of u 0 ≡ t.maps
-maps_are u t is = ap (λ (x : Translator). x.maps) (get_or_from_slice_get u.translators 0 t no_translator is)
+pub maps_are : (u : Plain) (its : ℕ) (t : Translator) → slice_get u.translators its ≡ Some t → maps_of u its ≡ t.maps
+maps_are u its t is = ap (λ (x : Translator). x.maps) (get_or_from_slice_get u.translators its t no_translator is)
 
 pend_there : (o : Option Redistributor) (s : PendState) → option_map pend_of o ≡ Some s → (d : Redistributor) → pend_of (unwrap_or o d) ≡ s
 pend_there None s is d = absurd cc

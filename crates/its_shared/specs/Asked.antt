@@ -3,10 +3,10 @@ use Rattle.std.specs.Prelude.{ℕ, List, Bool, ◌&&◌, ◌||◌, ◌==◌, nat
 use Rattle.its_plain.specs.Doorbells.{dma_of}
 use Rattle.its_plain.specs.declared.call.Call.{Call}
 use Rattle.its_plain.specs.declared.call.Call.TheVariants as call
-use Rattle.its_shared.specs.Knowing.{Known, has_vcpu}
+use Rattle.its_shared.specs.Knowing.{Known, has_translator, has_vcpu}
 
-abbrev pub signal : ℕ → ℕ → Call
-signal device event = call.Signal 0 (record { 0 = device }) (record { 0 = event })
+abbrev pub signal : ℕ → ℕ → ℕ → Call
+signal its device event = call.Signal its (record { 0 = device }) (record { 0 = event })
 
 abbrev pub take : ℕ → Call
 take vcpu = call.Take (record { 0 = vcpu })
@@ -20,11 +20,11 @@ best vcpu mask = call.Best (record { 0 = vcpu }) mask
 abbrev pub claim : ℕ → ℕ → Call
 claim vcpu intid = call.Claim (record { 0 = vcpu }) (record { 0 = intid })
 
-abbrev pub read_register : ℕ → ℕ → Call
-read_register offset size = call.ReadReg 0 offset size
+abbrev pub read_register : ℕ → ℕ → ℕ → Call
+read_register its offset size = call.ReadReg its offset size
 
-abbrev pub write_register : ℕ → ℕ → ℕ → Call
-write_register offset size value = call.WriteReg 0 offset size value
+abbrev pub write_register : ℕ → ℕ → ℕ → ℕ → Call
+write_register its offset size value = call.WriteReg its offset size value
 
 abbrev pub read_lpi_register : ℕ → ℕ → ℕ → Call
 read_lpi_register vcpu offset size = call.ReadGicr (record { 0 = vcpu }) offset size
@@ -32,8 +32,8 @@ read_lpi_register vcpu offset size = call.ReadGicr (record { 0 = vcpu }) offset 
 abbrev pub write_lpi_register : ℕ → ℕ → ℕ → ℕ → Call
 write_lpi_register vcpu offset size value = call.WriteGicr (record { 0 = vcpu }) offset size value
 
-abbrev pub step : Call
-step = call.Step 0
+abbrev pub step : ℕ → Call
+step its = call.Step its
 
 abbrev pub write_memory : ℕ → List ℕ → Call
 write_memory address bytes = call.Poke (record { 0 = address }) bytes
@@ -52,6 +52,10 @@ has_mask k vcpu mask = has_vcpu k vcpu && nat_lt mask 256
 
 abbrev pub is_size : ℕ → Bool
 is_size size = size == 4 || size == 8
+
+-- a register of a translator, of so many bytes
+abbrev pub has_control : Known → ℕ → ℕ → Bool
+has_control k its size = has_translator k its && is_size size
 
 abbrev pub has_register : Known → ℕ → ℕ → Bool
 has_register k vcpu size = has_vcpu k vcpu && is_size size

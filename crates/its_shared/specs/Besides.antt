@@ -55,12 +55,12 @@ told_first (Some place) besides = all_told ((place.0, 32) ∷ []) besides
 abbrev pub stretches : Shape → List Redistributor → StepReads → List (ℕ × ℕ)
 stretches s rs r = told_first r.command (besides_reads s rs r.besides)
 
--- a state has this shape, translator 0, and memory
-pub record HasFirst (u : Plain) (s : Shape) (r : Registers) (m : Maps) (memory : List Window) : Type 0 where
+-- a state has this shape, these registers and maps of a translator, and this memory
+pub record HasParts (u : Plain) (its : ℕ) (s : Shape) (r : Registers) (m : Maps) (memory : List Window) : Type 0 where
   pub shape : u.layout.shape ≡ s
-  pub translator_is : translator u 0 ≡ record { regs = r; maps = m }
+  pub translator_is : translator u its ≡ record { regs = r; maps = m }
   pub memory_is : u.memory ≡ memory
 
--- what the next step reads
-abbrev pub needed : Plain → List StretchOut
-needed u = map stretch_out (reads u 0)
+-- what the next step of a translator reads
+abbrev pub needed : ℕ → Plain → List StretchOut
+needed its u = map stretch_out (reads u its)

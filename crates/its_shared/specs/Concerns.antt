@@ -23,9 +23,9 @@ untold_answer NoMemory = NoMemory
 untold_answer Full = Full
 
 -- a step that was made names whom it concerned in the state before it, the last call that was seen
-abbrev pub NamesConcerned : Plain → List Entry → Answer Stepped → Type 0
-NamesConcerned start seen (Made p) = BeforeLast (λ u. Concerns u 0 p.reply.concerned) start seen
-NamesConcerned start seen other = Unit {0}
+abbrev pub NamesConcerned : ℕ → Plain → List Entry → Answer Stepped → Type 0
+NamesConcerned its start seen (Made p) = BeforeLast (λ u. Concerns u its p.reply.concerned) start seen
+NamesConcerned its start seen other = Unit {0}
 
 -- these words have the bits of those that it concerned
 abbrev pub HaveBitsOf : List ℕ → Answer Stepped → Type 0
@@ -34,11 +34,11 @@ HaveBitsOf words other = Unit {0}
 
 -- ---- as a caller in another language is told it
 
--- a virtual processor whose bit is clear is after the next step as it was
-abbrev pub UnconcernedStay : List ℕ → Plain → Type 0
-UnconcernedStay words u =
-    (vcpu : ℕ) → vcpu < most_vcpus → word_bit words vcpu ≡ false → slice_get (step_left u 0).redistributors vcpu ≡ slice_get u.redistributors vcpu
+-- a virtual processor whose bit is clear is after the next step of a translator as it was
+abbrev pub UnconcernedStay : List ℕ → ℕ → Plain → Type 0
+UnconcernedStay words its u =
+    (vcpu : ℕ) → vcpu < most_vcpus → word_bit words vcpu ≡ false → slice_get (step_left u its).redistributors vcpu ≡ slice_get u.redistributors vcpu
 
 -- one whose bit is set has its pending LPIs or its configuration read or changed by a command that isn't refused
-abbrev pub AreConcerned : List ℕ → Plain → Type 0
-AreConcerned words u = (vcpu : ℕ) → vcpu < most_vcpus → word_bit words vcpu ≡ true → IsConcerned u 0 vcpu
+abbrev pub AreConcerned : List ℕ → ℕ → Plain → Type 0
+AreConcerned words its u = (vcpu : ℕ) → vcpu < most_vcpus → word_bit words vcpu ≡ true → IsConcerned u its vcpu

@@ -22,7 +22,7 @@ abbrev pub reply_leaves_maps : Reply → Bool
 reply_leaves_maps (replies.Step step) = step_leaves_maps step
 reply_leaves_maps other = true
 
--- a call that was answered so left the maps of translator 0
+-- a call that was answered so left the maps of every translator
 abbrev pub leaves_maps : Call → Reply → Bool
 leaves_maps (call.Step its) reply = reply_leaves_maps reply
 leaves_maps (call.WriteReg its off size value) reply = is_no_table off
@@ -52,9 +52,10 @@ pub record Counts (k l : Known) (code : ℕ) : Type 0 where
   pub done : code ≡ codes.done → (before : List Entry) (last : Entry) → l.view.seen ≡ before ++ last ∷ [] → CountsEntry last k l
   pub otherwise : code ≢ codes.done → (l.routes ≡ k.routes) × (l.counters ≡ k.counters)
 
--- the last entry of a history leaves the maps of the state before it
+-- the last entry of a history leaves the maps of every translator of the state before it
 abbrev pub LastLeavesMaps : Plain → List Entry → Type 0
-LastLeavesMaps start seen = (before : List Entry) (last : Entry) → seen ≡ before ++ last ∷ [] → maps_of (after start seen) 0 ≡ maps_of (after start before) 0
+LastLeavesMaps start seen =
+    (before : List Entry) (last : Entry) → seen ≡ before ++ last ∷ [] → (its : ℕ) → maps_of (after start seen) its ≡ maps_of (after start before) its
 
 -- where a call was done and the count is the same, its entry leaves the maps of the state before it
 abbrev pub KeepsRoutes : Known → Known → ℕ → Type 0

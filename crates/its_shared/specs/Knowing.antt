@@ -3,7 +3,7 @@ use Rattle.std.specs.Prelude.{ℕ, ◌^◌, Bool, ◌==◌, ◌&&◌, nat_lt}
 use Rattle.its_plain.specs.declared.desc.Desc.{Desc}
 use Rattle.its_numbers.specs.declared.counters.Counters.{Counters}
 use Rattle.its_numbers.specs.declared.limits.GuestLimits.{GuestLimits}
-use Rattle.its_steps.specs.Parts.{vcpu_count}
+use Rattle.its_steps.specs.Parts.{translator_count, vcpu_count}
 use Rattle.its_steps.specs.World.{View}
 
 pub record Known : Type 0 where
@@ -25,6 +25,10 @@ setting k = (k.desc, k.limits)
 -- and what it has counted
 abbrev pub beside : Known → Desc × GuestLimits × ℕ × Counters
 beside k = (k.desc, k.limits, k.routes, k.counters)
+
+-- there is a translator of this number
+abbrev pub has_translator : Known → ℕ → Bool
+has_translator k its = nat_lt its (translator_count k.view.setup)
 
 -- there is a virtual processor of this number
 abbrev pub has_vcpu : Known → ℕ → Bool

@@ -1,5 +1,5 @@
 -- The outcome of making a machine that threads share.
-use Rattle.std.specs.Prelude.{◌≡◌, ◌-◌, ◌^◌, false, Option, Some, None, Result, Ok, Err}
+use Rattle.std.specs.Prelude.{◌≡◌, ℕ, ◌-◌, ◌^◌, false, ◌==◌, if◌then◌else◌, length, Option, Some, None, Result, Ok, Err}
 use Rattle.its_plain.specs.Described.{IsFirstState, IsRefused}
 use Rattle.its_plain.specs.declared.desc.Desc.{Desc}
 use Rattle.its_plain.specs.declared.make.MakeError.{MakeError}
@@ -13,13 +13,15 @@ use Rattle.its_numbers.specs.declared.limits.GuestLimits.{GuestLimits}
 use Rattle.its_shared.specs.Knowing.{Known}
 use Rattle.its_shared.specs.declared.pass.Pass.{Pass}
 
--- a stamp has 8 bits, and a place 56
-abbrev pub wide_places : Limits
-wide_places = record { stamp_last = 2 ^ 8 - 1; place_last = 2 ^ 56 - 1 }
+-- of one translator, a stamp has 8 bits and a place 56; of two, each one's stamp 12 and a place 40
+abbrev pub limits_of : ℕ → Limits
+limits_of translators =
+    if translators == 1 then record { stamp_last = 2 ^ 8 - 1; place_last = 2 ^ 56 - 1 }
+    else record { stamp_last = 2 ^ 12 - 1; place_last = 2 ^ 40 - 1 }
 
--- a description, with as many shards of the cache as a machine that threads share has, and with its limits
+-- a description, with as many shards of each translator's cache as a machine that threads share has, and with its limits
 abbrev pub shared : Desc → Desc
-shared d = record d { shards = 64; limits = wide_places }
+shared d = record d { shards = 64; limits = limits_of (length d.translators) }
 
 -- the root of a machine that begins in the first state of the description: it has seen no call, none was made, and none counted
 pub record IsFirst (d : Desc) (k : Known) : Type 0 where

@@ -120,11 +120,11 @@ first_told says u before after = ListsFirst (says u) before.0 after.0 after.1
 
 -- ---- what is told
 
--- where the maps of translator 0 lead an event: to the target of a mapped collection, or nowhere
+-- where the maps of a translator lead an event: to the target of a mapped collection, or nowhere
 abbrev pub Leads : Maps → ℕ → ℕ → Result (Event × Vcpu) Destination → Type 0
 Leads m dev ev (Ok x) =
-    (collection_of m x.0.icid.0 ≡ Some x.1) × ((u : Plain) → maps_of u 0 ≡ m → destination u 0 dev ev ≡ of_target u x.0 (Some x.1))
-Leads m dev ev (Err d) = (u : Plain) → maps_of u 0 ≡ m → destination u 0 dev ev ≡ d
+    (collection_of m x.0.icid.0 ≡ Some x.1) × ((u : Plain) (its : ℕ) → maps_of u its ≡ m → destination u its dev ev ≡ of_target u x.0 (Some x.1))
+Leads m dev ev (Err d) = (u : Plain) (its : ℕ) → maps_of u its ≡ m → destination u its dev ev ≡ d
 
 -- the tables that a save writes
 abbrev pub written : Plain → List StretchOut

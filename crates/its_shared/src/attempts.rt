@@ -4,8 +4,8 @@ ghost use Rattle.std.specs.Prelude.{◌≡◌};
 use crate::answer::{Answer, answered, answered_held, answered_if, answered_saved, answered_tried};
 use crate::limits::Within;
 use crate::port::Port;
-use cmd_engine::{Stepped, try_read_reg, try_step_told, try_write_reg};
-use device_port::{Dma, signal_once, try_dma_within};
+use cmd_engine::{Stepped, try_read_at, try_step_told, try_write_at};
+use device_port::{Dma, signal_once_at, try_dma_within};
 use dma_routes::route;
 use gicr_lpi::{try_read_gicr, try_write_gicr};
 use guest_port::{try_peek, try_poke_within};
@@ -31,16 +31,18 @@ impl Port {
     ghost use Rattle.its_shared.specs.declared.answer.Answer.TheVariants.{Full};
     ghost use Rattle.its_numbers.specs.Limits.{no_limit};
 
-    /// A device's message.
-    pub fn signal(&mut self, device: u32, event: u32) -> Answer<Signal>
+    /// A device's message to a translator.
+    pub fn signal(&mut self, its: u8, device: u32, event: u32) -> Answer<Signal>
+        requires { spec.has_translator self.old its ≡ true }
         ensures beside { spec.beside self.new ≡ spec.beside self.old }
-        ensures answer { Answers (asked.signal device event) reply.Signal
+        ensures answer { Answers (asked.signal its device event) reply.Signal
             self.old.view self.new.view result }
     {
-        answered(signal_once(
+        answered(signal_once_at(
             &self.machine,
             &mut self.pass,
             &Open,
+            its,
             DeviceId(device),
             EventId(event),
         ))
@@ -92,22 +94,32 @@ impl Port {
         ))
     }
 
-    /// A read of the translator's control frame.
-    pub fn read_register(&mut self, offset: u32, size: u8) -> Answer<u64>
+    /// A read of a translator's control frame.
+    pub fn read_register(&mut self, its: u8, offset: u32, size: u8) -> Answer<u64>
+        requires { spec.has_translator self.old its ≡ true }
         ensures beside { spec.beside self.new ≡ spec.beside self.old }
-        ensures answer { Answers (asked.read_register offset size) reply.Value
+        ensures answer { Answers (asked.read_register its offset size) reply.Value
             self.old.view self.new.view result }
     {
-        answered(try_read_reg(&self.machine, &mut self.pass, &Open, offset, size))
+        answered(try_read_at(&self.machine, &mut self.pass, &Open, its, offset, size))
     }
 
-    /// A write of the translator's control frame.
-    pub fn write_register(&mut self, offset: u32, size: u8, value: u64) -> Answer<()>
+    /// A write of a translator's control frame.
+    pub fn write_register(&mut self, its: u8, offset: u32, size: u8, value: u64) -> Answer<()>
+        requires { spec.has_translator self.old its ≡ true }
         ensures beside { spec.beside self.new ≡ spec.beside self.old }
-        ensures answer { Answers (asked.write_register offset size value) (λ _. reply.Ok)
+        ensures answer { Answers (asked.write_register its offset size value) (λ _. reply.Ok)
             self.old.view self.new.view result }
     {
-        answered_tried(try_write_reg(&self.machine, &mut self.pass, &Open, offset, size, value))
+        answered_tried(try_write_at(
+            &self.machine,
+            &mut self.pass,
+            &Open,
+            its,
+            offset,
+            size,
+            value,
+        ))
     }
 
     /// A read of the LPI registers of a redistributor.
@@ -145,18 +157,19 @@ impl Port {
         ))
     }
 
-    /// The translator takes its next command, if that maps no more than may be, and tells whom that
-    /// concerned.
-    pub fn step(&mut self) -> Answer<Stepped>
+    /// A translator takes its next command, if that maps no more of it than may be, and tells whom
+    /// that concerned.
+    pub fn step(&mut self, its: u8) -> Answer<Stepped>
+        requires { spec.has_translator self.old its ≡ true }
         ensures beside { spec.beside self.new ≡ spec.beside self.old }
-        ensures answer { Answers asked.step step_said
+        ensures answer { Answers (asked.step its) step_said
             self.old.view self.new.view result }
-        ensures within { KeepsWithin self.old.limits self.old.view.setup.start self.new.view.seen
-            result }
-        ensures concerned { NamesConcerned self.old.view.setup.start self.new.view.seen result }
+        ensures within { KeepsWithin self.old.limits its self.old.view.setup.start
+            self.new.view.seen result }
+        ensures concerned { NamesConcerned its self.old.view.setup.start self.new.view.seen result }
     {
         let limits = Within(self.limits);
-        answered_tried(try_step_told(&self.machine, &mut self.pass, &Open, 0, &limits))
+        answered_tried(try_step_told(&self.machine, &mut self.pass, &Open, its, &limits))
     }
 
     /// A write of guest memory, if no more pages are held for it than may be.

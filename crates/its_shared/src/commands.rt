@@ -8,7 +8,7 @@ ghost use Rattle.its_plain.specs.declared.call.Call.TheVariants as call;
 ghost use Rattle.its_plain.specs.declared.call.Reply.TheVariants as reply;
 ghost use Rattle.its_shared.specs.Concerns.{AreConcerned, UnconcernedStay};
 ghost use Rattle.its_shared.specs.Counting.{Counts, KeepsRoutes};
-ghost use Rattle.its_shared.specs.Knowing.{beside, setting};
+ghost use Rattle.its_shared.specs.Knowing.{beside, has_translator, setting};
 ghost use Rattle.its_shared.specs.Limits.{StepsWithin};
 ghost use Rattle.its_shared.specs.Asked as asked;
 ghost use Rattle.its_shared.specs.Asked.{is_count};
@@ -23,20 +23,44 @@ use its_numbers::{RANGE, SaveFaultOut, StepOut};
 use its_plain::Bytes64;
 use std::alloc::Global;
 
-/// The translator takes its next command (IHI 0069, section 5.3).
-pub fn step(port: &mut Port, place: &mut u64, out: &mut StepOut) -> u32
+/// A translator takes its next command (IHI 0069, section 5.3).
+pub fn step(port: &mut Port, translator: u32, place: &mut u64, out: &mut StepOut) -> u32
     ensures setting { setting port.new ≡ setting port.old }
-    ensures told { Tells is_done (as_told (step_told out.new.concerned)) asked.step reply.Step
+    ensures range { has_translator port.old translator ≡ false → (result ≡ codes.range)
+        × (port.new ≡ port.old) × (place.new ≡ place.old) × (out.new ≡ out.old) }
+    ensures told { has_translator port.old translator ≡ true → Tells is_done
+        (as_told (step_told out.new.concerned)) (asked.step translator) reply.Step
         port.old port.new result place.old place.new out.old out.new }
-    ensures unconcerned { result ≡ codes.done → BeforeLast (UnconcernedStay out.new.concerned)
+    ensures unconcerned { result ≡ codes.done → BeforeLast
+        (UnconcernedStay out.new.concerned translator)
         port.old.view.setup.start port.new.view.seen }
-    ensures concerned { result ≡ codes.done → BeforeLast (AreConcerned out.new.concerned)
+    ensures concerned { result ≡ codes.done → BeforeLast
+        (AreConcerned out.new.concerned translator)
         port.old.view.setup.start port.new.view.seen }
-    ensures within { StepsWithin port.old port.new result }
+    ensures within { StepsWithin translator port.old port.new result }
     ensures counts { Counts port.old port.new result }
     ensures routes { KeepsRoutes port.old port.new result }
 {
-    let answer = port.step();
+    if !port.has_translator(translator) {
+        return RANGE;
+    }
+    step_of(port, translator as u8, place, out)
+}
+
+fn step_of(port: &mut Port, its: u8, place: &mut u64, out: &mut StepOut) -> u32
+    requires { has_translator port.old its ≡ true }
+    ensures setting { setting port.new ≡ setting port.old }
+    ensures told { Tells is_done (as_told (step_told out.new.concerned)) (asked.step its) reply.Step
+        port.old port.new result place.old place.new out.old out.new }
+    ensures unconcerned { result ≡ codes.done → BeforeLast (UnconcernedStay out.new.concerned its)
+        port.old.view.setup.start port.new.view.seen }
+    ensures concerned { result ≡ codes.done → BeforeLast (AreConcerned out.new.concerned its)
+        port.old.view.setup.start port.new.view.seen }
+    ensures within { StepsWithin its port.old port.new result }
+    ensures counts { Counts port.old port.new result }
+    ensures routes { KeepsRoutes port.old port.new result }
+{
+    let answer = port.step(its);
     port.count_step(&answer);
     tell_step(answer, place, out)
 }

@@ -34,7 +34,7 @@ fn write_commands(pass: &mut Pass) -> u32 {
         its_pass_write_memory(pass, at, &word.to_le_bytes(), &mut place);
         at = at.wrapping_add(8);
     }
-    its_pass_write_register(pass, 0x88, 8, 0xe0, &mut place)
+    its_pass_write_register(pass, 0, 0x88, 8, 0xe0, &mut place)
 }
 
 // What became of the next command, and whom it concerned of the first 64 processors.
@@ -47,7 +47,7 @@ fn stepped(pass: &mut Pass) -> (u32, u64) {
         address: 0,
         concerned: [9; 8],
     };
-    its_pass_step(pass, &mut place, &mut step);
+    its_pass_step(pass, 0, &mut place, &mut step);
     (step.outcome, step.concerned[0])
 }
 

@@ -5,8 +5,8 @@ use crate::message_calls::{its_pass_dma, its_pass_signal};
 use crate::pass::Pass;
 use crate::register_calls::its_pass_write_register;
 use crate::step_calls::{its_pass_save, its_pass_step, its_pass_write_memory};
-use crate::tests::{drive, shared};
-use its_numbers::{Counters, DONE, DmaOut, HANDLE, RANGE, SaveFaultOut, SignalOut, StepOut};
+use crate::tests::{NO_SAVE_FAULT, drive, shared};
+use its_numbers::{Counters, DONE, DmaOut, HANDLE, RANGE, SignalOut, StepOut};
 
 const NO_SIGNAL: SignalOut = SignalOut {
     cause: 9,
@@ -49,7 +49,7 @@ fn routes(pass: &mut Pass) -> (u32, u64) {
 
 fn signalled(pass: &mut Pass, device: u32, event: u32) -> u32 {
     let (mut place, mut out) = (0, NO_SIGNAL);
-    its_pass_signal(pass, device, event, &mut place, &mut out);
+    its_pass_signal(pass, 0, device, event, &mut place, &mut out);
     out.cause
 }
 
@@ -94,7 +94,7 @@ fn commanded(pass: &mut Pass, number: u64, words: [u64; 2]) -> u32 {
         at = at.wrapping_add(8);
     }
     let end = number.wrapping_add(1).wrapping_mul(32);
-    its_pass_write_register(pass, 0x88, 8, end, &mut place);
+    its_pass_write_register(pass, 0, 0x88, 8, end, &mut place);
     let mut step = StepOut {
         outcome: 9,
         op: 0,
@@ -102,7 +102,7 @@ fn commanded(pass: &mut Pass, number: u64, words: [u64; 2]) -> u32 {
         address: 0,
         concerned: [0; 8],
     };
-    its_pass_step(pass, &mut place, &mut step);
+    its_pass_step(pass, 0, &mut place, &mut step);
     step.reason
 }
 
@@ -144,16 +144,9 @@ fn routes_that_may_have_changed(rt: HostRuntime) {
         ((DONE, 5), (DONE, 0))
     );
     let mut place = 0;
-    its_pass_write_register(&mut pass, 0x108, 8, 0x8407_0000_8001_0200, &mut place);
+    its_pass_write_register(&mut pass, 0, 0x108, 8, 0x8407_0000_8001_0200, &mut place);
     assert_eq!(rt; signalled(&mut root, 7, 2), 0);
-    let mut fault = SaveFaultOut {
-        kind: 0,
-        device: 0,
-        region: 0,
-        number: 0,
-        other_region: 0,
-        other_number: 0,
-    };
+    let mut fault = NO_SAVE_FAULT;
     its_pass_save(&mut root, alloc, &mut place, &mut fault);
     assert_eq!(rt;
         (routes(&mut root), routes(&mut pass)),

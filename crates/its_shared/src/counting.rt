@@ -34,8 +34,8 @@ impl Port {
 
     /// Counts a message that was answered so.
     pub fn count_signal(&mut self, answer: &Answer<Signal>)
-        ensures { (device event : ℕ) → self.new
-            ≡ counted_so (asked.signal device event) reply.Signal answer.now self.old }
+        ensures { (its device event : ℕ) → self.new
+            ≡ counted_so (asked.signal its device event) reply.Signal answer.now self.old }
     {
         match *answer {
             Answer::Made(placed) => self.counters.count_signal(placed.reply),
@@ -68,7 +68,8 @@ impl Port {
 
     /// Counts a step that was answered so.
     pub fn count_step(&mut self, answer: &Answer<Stepped>)
-        ensures { self.new ≡ counted_so asked.step step_said answer.now self.old }
+        ensures { (its : ℕ) → self.new
+            ≡ counted_so (asked.step its) step_said answer.now self.old }
     {
         match *answer {
             Answer::Made(placed) => {
@@ -80,10 +81,10 @@ impl Port {
         }
     }
 
-    /// Counts a write of the translator's control frame that was answered so.
+    /// Counts a write of a translator's control frame that was answered so.
     pub fn count_write(&mut self, offset: u32, answer: &Answer<()>)
-        ensures { (size value : ℕ) → self.new
-            ≡ counted_so (asked.write_register offset size value) (λ _. reply.Ok) answer.now
+        ensures { (its size value : ℕ) → self.new
+            ≡ counted_so (asked.write_register its offset size value) (λ _. reply.Ok) answer.now
             self.old }
     {
         match *answer {

@@ -1,8 +1,9 @@
 //! Where an event leads, seen through a pass.
-ghost use Rattle.std.specs.Prelude.{◌≡◌, [], ◌∷◌, Some, slice_get};
+ghost use Rattle.std.specs.Prelude.{◌≡◌, ◌<◌, [], ◌∷◌, Some, slice_get};
 ghost use Rattle.held_parts.specs.Wholes.{maps_held};
 ghost use Rattle.its_plain.specs.Plain.{Plain, is_on};
 ghost use Rattle.its_steps.specs.Contents as content;
+ghost use Rattle.its_steps.specs.Parts.{translator_count};
 ghost use Rattle.its_steps.specs.World.{View, took};
 ghost use Rattle.its_turns.specs.Machines.{setup, view, IsOf};
 ghost use Rattle.its_turns.specs.Told.{HasStood};
@@ -19,30 +20,32 @@ use its_types::{DeviceId, Event, EventId, Part, Placed, Vcpu};
 use owned_parts::Translator;
 use step_views::Destination;
 
-/// Where an event leads by the maps, whether or not the translator is enabled. Takes the maps, and
+/// Where an event leads by a translator's maps, whether or not it is enabled. Takes the maps, and
 /// where a target is found what is pending there, each at the first try.
 pub fn try_event(
     machine: &Machine,
     pass: &mut Pass,
+    its: u8,
     dev: DeviceId,
     ev: EventId,
 ) -> Result<Placed<Destination>, Unseen>
     requires of { IsOf machine.now pass.old }
+    requires its { its < translator_count (setup machine.now) }
     requires free { (view pass.old).held ≡ [] }
     ensures of { IsOf machine.now pass.new }
     ensures free { (view pass.new).held ≡ [] }
-    ensures seen { Sees ⊥ (λ u d. d ≡ destination u 0 dev.0 ev.0) (view pass.old) (view pass.new)
-        result }
+    ensures seen { Sees ⊥ (λ u d. d ≡ destination u its dev.0 ev.0)
+        (view pass.old) (view pass.new) result }
 {
-    let maps = match try_take_maps(machine, pass, 0) {
+    let maps = match try_take_maps(machine, pass, its) {
         Ok(maps) => maps,
         Err(_) => return Err(Unseen::Busy),
     };
     match lead(&maps.maps, dev, ev) {
-        Ok((event, vcpu)) => at_target(machine, pass, maps, event, vcpu),
+        Ok((event, vcpu)) => at_target(machine, pass, its, maps, event, vcpu),
         Err(reply) => {
             let word = look(machine, pass);
-            put(machine, pass, Part::Maps(0), Value::Maps(maps));
+            put(machine, pass, Part::Maps(its), Value::Maps(maps));
             Ok(Placed {
                 place: word.place,
                 reply,
@@ -72,33 +75,34 @@ fn lead(maps: &Maps, dev: DeviceId, ev: EventId) -> Result<(Event, Vcpu), Destin
 fn at_target(
     machine: &Machine,
     pass: &mut Pass,
+    its: u8,
     maps: Box<Translator>,
     event: Event,
     vcpu: Vcpu,
 ) -> Result<Placed<Destination>, Unseen>
     requires of { IsOf machine.now pass.old }
-    requires held { (view pass.old).held ≡ maps_held 0 maps.value ∷ [] }
-    requires stood { HasStood (setup machine.now) (part.Maps 0)
+    requires held { (view pass.old).held ≡ maps_held its maps.value ∷ [] }
+    requires stood { HasStood (setup machine.now) (part.Maps its)
         (content.Maps (translator_of maps.value)) }
     requires goes { collection_of maps.value.maps.maps event.icid.0 ≡ Some vcpu }
     ensures of { IsOf machine.now pass.new }
     ensures free { (view pass.new).held ≡ [] }
     ensures seen { (v : View) → v.held ≡ [] →
-        view pass.old ≡ took v (part.Maps 0) (content.Maps (translator_of maps.value)) →
-        Sees ⊥ (λ u d. (slice_get u.translators 0 ≡ Some (translator_of maps.value))
+        view pass.old ≡ took v (part.Maps its) (content.Maps (translator_of maps.value)) →
+        Sees ⊥ (λ u d. (slice_get u.translators its ≡ Some (translator_of maps.value))
         × (d ≡ of_target u event (Some vcpu))) v (view pass.new) result }
 {
     let pend = match try_take_pend(machine, pass, vcpu) {
         Ok(pend) => pend,
         Err(_) => {
-            put(machine, pass, Part::Maps(0), Value::Maps(maps));
+            put(machine, pass, Part::Maps(its), Value::Maps(maps));
             return Err(Unseen::Busy);
         }
     };
     let word = look(machine, pass);
     let on = pend.accepts();
     put(machine, pass, Part::Pend(vcpu), Value::Pend(pend));
-    put(machine, pass, Part::Maps(0), Value::Maps(maps));
+    put(machine, pass, Part::Maps(its), Value::Maps(maps));
     Ok(Placed {
         place: word.place,
         reply: target(event, vcpu, on),

@@ -32,6 +32,8 @@ mod message_calls;
 mod messages;
 mod needed;
 mod needs_look;
+#[cfg(test)]
+mod pair_tests;
 mod pass;
 mod pending_look;
 mod port;

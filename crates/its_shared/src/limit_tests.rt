@@ -4,9 +4,9 @@ use crate::making::{its_pass_free, its_split};
 use crate::message_calls::its_pass_dma;
 use crate::pass::Pass;
 use crate::step_calls::{its_pass_save, its_pass_step, its_pass_write_memory};
-use crate::tests::{FILLS, NUMBERS, drive, shared_from, signalled};
+use crate::tests::{FILLS, NO_SAVE_FAULT, NUMBERS, TRANSLATOR, drive, shared_from, signalled};
 use its_numbers::{
-    DONE, DescriptionIn, DmaOut, FULL, FillIn, HANDLE, OUTSIDE, SaveFaultOut, SignalOut, StepOut,
+    DONE, DescriptionIn, DmaOut, FULL, FillIn, HANDLE, OUTSIDE, SignalOut, StepOut, TranslatorIn,
 };
 use std::alloc::Global;
 
@@ -30,14 +30,21 @@ fn stepped(pass: &mut Pass) -> (u32, u32, u64) {
         address: 9,
         concerned: [9; 8],
     };
-    let code = its_pass_step(pass, &mut place, &mut out);
+    let code = its_pass_step(pass, 0, &mut place, &mut out);
     (code, out.outcome, place)
 }
 
 // How many of the driver's MAPD, MAPC and MAPTI run, and what the next step answers.
 fn ran(alloc: Global, events: u64, devices: u64) -> (u32, u32) {
     let mut root = Pass::empty(alloc);
-    shared_from(alloc, &mut root, &limited(events, devices), &FILLS, &[0xa1]);
+    shared_from(
+        alloc,
+        &mut root,
+        &limited(events, devices),
+        &[TRANSLATOR],
+        &FILLS,
+        &[0xa1],
+    );
     let (count, _) = drive(&mut root);
     let next = stepped(&mut root).0;
     its_pass_free(&mut root, alloc);
@@ -63,7 +70,14 @@ fn limits_of_passes(rt: HostRuntime) {
     let (mut root, mut pass) = (Pass::empty(alloc), Pass::empty(alloc));
     assert_eq!(rt; its_pass_limits(&mut root, 0, 0, NONE), HANDLE);
     assert_eq!(rt;
-        shared_from(alloc, &mut root, &limited(0, 1), &FILLS, &[0xa1]),
+        shared_from(
+            alloc,
+            &mut root,
+            &limited(0, 1),
+            &[TRANSLATOR],
+            &FILLS,
+            &[0xa1]
+        ),
         DONE
     );
     assert_eq!(rt; drive(&mut root), (2, 18));
@@ -100,14 +114,7 @@ fn wrote(pass: &mut Pass, address: u64) -> u32 {
 // The code of a save, and its place, which is 9 where none is told.
 fn saved(alloc: Global, pass: &mut Pass) -> (u32, u64) {
     let mut place = 9;
-    let mut fault = SaveFaultOut {
-        kind: 0,
-        device: 0,
-        region: 0,
-        number: 0,
-        other_region: 0,
-        other_number: 0,
-    };
+    let mut fault = NO_SAVE_FAULT;
     let code = its_pass_save(pass, alloc, &mut place, &mut fault);
     (code, place)
 }
@@ -119,7 +126,7 @@ fn filled(alloc: Global, memory: u64) -> (u32, u32) {
         ..NUMBERS
     };
     let mut root = Pass::empty(alloc);
-    let code = shared_from(alloc, &mut root, &numbers, &FILLS, &[0xa1]);
+    let code = shared_from(alloc, &mut root, &numbers, &[TRANSLATOR], &FILLS, &[0xa1]);
     (code, its_pass_free(&mut root, alloc))
 }
 
@@ -132,7 +139,7 @@ fn memory(rt: HostRuntime) {
     assert_eq!(rt; filled(alloc, 0x1_0000), (DONE, DONE));
     let mut root = Pass::empty(alloc);
     assert_eq!(rt;
-        shared_from(alloc, &mut root, &NUMBERS, &FILLS, &[0xa1]),
+        shared_from(alloc, &mut root, &NUMBERS, &[TRANSLATOR], &FILLS, &[0xa1]),
         DONE
     );
     assert_eq!(rt; its_pass_limits(&mut root, NONE, NONE, 0x3_0000), DONE);
@@ -178,16 +185,19 @@ const SAVED: [u8; 24] = [
 fn restored(alloc: Global, events: u64, devices: u64) -> (u32, u32, u32) {
     let numbers = DescriptionIn {
         restored: 1,
+        ..limited(events, devices)
+    };
+    let translator = TranslatorIn {
         ctlr: 1,
         cbaser: 0x8000_0000_8002_0000,
         creadr: 0x60,
         cwriter: 0x60,
         baser0: 0x8107_0000_8000_0200,
         baser1: 0x8407_0000_8001_0200,
-        ..limited(events, devices)
+        ..TRANSLATOR
     };
     let mut root = Pass::empty(alloc);
-    let code = shared_from(alloc, &mut root, &numbers, &ENTRIES, &SAVED);
+    let code = shared_from(alloc, &mut root, &numbers, &[translator], &ENTRIES, &SAVED);
     let (signal, _, _) = signalled(&mut root);
     (code, signal, its_pass_free(&mut root, alloc))
 }

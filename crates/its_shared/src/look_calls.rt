@@ -7,7 +7,7 @@ ghost use Rattle.its_numbers.specs.Mapped.{collections_from, devices_from, mappi
 ghost use Rattle.its_numbers.specs.Stored.{stored};
 ghost use Rattle.its_plain.specs.Plain.{maps_of, pending_of};
 ghost use Rattle.its_shared.specs.Besides.{needed};
-ghost use Rattle.its_shared.specs.Knowing.{has_vcpu};
+ghost use Rattle.its_shared.specs.Knowing.{has_translator, has_vcpu};
 ghost use Rattle.its_shared.specs.Seeing.{Shows, all_told, first_told, numbers_told};
 ghost use Rattle.its_shared.specs.Seeing.{written as tables};
 ghost use Rattle.its_shared.specs.Telling.{InPass, machine_of};
@@ -20,10 +20,11 @@ use its_numbers::{
 };
 use std::alloc::Global;
 
-/// Where an event leads.
+/// Where an event leads by a translator.
 #[unsafe(no_mangle)]
 pub extern "C" fn its_pass_event(
     pass: &mut Pass,
+    translator: u32,
     device: u32,
     event: u32,
     place: &mut u64,
@@ -32,14 +33,20 @@ pub extern "C" fn its_pass_event(
     ensures empty { pass.old.known ≡ None
         → (result ≡ codes.handle) × (place.new ≡ place.old) × (out.new ≡ out.old) }
     ensures kept { machine_of pass.new ≡ machine_of pass.old }
-    ensures told { InPass pass.old pass.new (λ k l. Shows ⊥
-        (λ u before after. after ≡ event_out (destination u 0 device event))
+    ensures range { InPass pass.old pass.new (λ k l. has_translator k translator ≡ false
+        → (result ≡ codes.range) × (l ≡ k) × (place.new ≡ place.old) × (out.new ≡ out.old)) }
+    ensures told { InPass pass.old pass.new (λ k l. has_translator k translator ≡ true → Shows ⊥
+        (λ u before after. after ≡ event_out (destination u translator device event))
         k l result place.old place.new out.old out.new) }
 {
     if pass.is_empty() {
         return HANDLE;
     }
-    told(pass.lent().event(device, event), place, out)
+    let port = pass.lent();
+    if !port.has_translator(translator) {
+        return RANGE;
+    }
+    told(port.event(translator as u8, device, event), place, out)
 }
 
 /// The LPIs that are pending at a virtual processor, rising: as many as the list takes, whose rest
@@ -124,12 +131,13 @@ pub extern "C" fn its_pass_written(
     told(pass.lent().written(alloc, list), place, count)
 }
 
-/// The stretches of guest memory that the next step reads: as many as the list takes, whose rest
-/// stays, and how many there are.
+/// The stretches of guest memory that the next step of a translator reads: as many as the list
+/// takes, whose rest stays, and how many there are.
 #[unsafe(no_mangle)]
 pub extern "C" fn its_pass_needs(
     pass: &mut Pass,
     alloc: Global,
+    translator: u32,
     place: &mut u64,
     list: &mut [StretchOut],
     count: &mut u64,
@@ -137,21 +145,29 @@ pub extern "C" fn its_pass_needs(
     ensures empty { pass.old.known ≡ None → (result ≡ codes.handle)
         × (place.new ≡ place.old) × (list.new ≡ list.old) × (count.new ≡ count.old) }
     ensures kept { machine_of pass.new ≡ machine_of pass.old }
-    ensures told { InPass pass.old pass.new (λ k l. Shows (Unit {0})
-        (all_told needed)
+    ensures range { InPass pass.old pass.new (λ k l. has_translator k translator ≡ false
+        → (result ≡ codes.range) × (l ≡ k) × (place.new ≡ place.old) × (list.new ≡ list.old)
+        × (count.new ≡ count.old)) }
+    ensures told { InPass pass.old pass.new (λ k l. has_translator k translator ≡ true
+        → Shows (Unit {0}) (all_told (needed translator))
         k l result place.old place.new (list.old, count.old) (list.new, count.new)) }
 {
     if pass.is_empty() {
         return HANDLE;
     }
-    told(pass.lent().needs(alloc, list), place, count)
+    let port = pass.lent();
+    if !port.has_translator(translator) {
+        return RANGE;
+    }
+    told(port.needs(alloc, translator as u8, list), place, count)
 }
 
-/// The mapped devices from a DeviceID on, by rising DeviceID: as many as the list takes, whose rest
-/// stays, and how many it has got.
+/// The mapped devices of a translator from a DeviceID on, by rising DeviceID: as many as the list
+/// takes, whose rest stays, and how many it has got.
 #[unsafe(no_mangle)]
 pub extern "C" fn its_pass_list_devices(
     pass: &mut Pass,
+    translator: u32,
     from: u32,
     place: &mut u64,
     list: &mut [DeviceOut],
@@ -160,14 +176,21 @@ pub extern "C" fn its_pass_list_devices(
     ensures empty { pass.old.known ≡ None → (result ≡ codes.handle)
         × (place.new ≡ place.old) × (list.new ≡ list.old) × (count.new ≡ count.old) }
     ensures kept { machine_of pass.new ≡ machine_of pass.old }
-    ensures told { InPass pass.old pass.new (λ k l. Shows ⊥
-        (first_told (λ u. devices_from (maps_of u 0) from))
+    ensures range { InPass pass.old pass.new (λ k l. has_translator k translator ≡ false
+        → (result ≡ codes.range) × (l ≡ k) × (place.new ≡ place.old) × (list.new ≡ list.old)
+        × (count.new ≡ count.old)) }
+    ensures told { InPass pass.old pass.new (λ k l. has_translator k translator ≡ true → Shows ⊥
+        (first_told (λ u. devices_from (maps_of u translator) from))
         k l result place.old place.new (list.old, count.old) (list.new, count.new)) }
 {
     if pass.is_empty() {
         return HANDLE;
     }
-    told(pass.lent().devices(from, list), place, count)
+    let port = pass.lent();
+    if !port.has_translator(translator) {
+        return RANGE;
+    }
+    told(port.devices(translator as u8, from, list), place, count)
 }
 
 /// The mapped events of a device from an EventID on, by rising EventID, as the devices are told. A
@@ -175,6 +198,7 @@ pub extern "C" fn its_pass_list_devices(
 #[unsafe(no_mangle)]
 pub extern "C" fn its_pass_list_events(
     pass: &mut Pass,
+    translator: u32,
     device: u32,
     from: u32,
     place: &mut u64,
@@ -184,20 +208,33 @@ pub extern "C" fn its_pass_list_events(
     ensures empty { pass.old.known ≡ None → (result ≡ codes.handle)
         × (place.new ≡ place.old) × (list.new ≡ list.old) × (count.new ≡ count.old) }
     ensures kept { machine_of pass.new ≡ machine_of pass.old }
-    ensures told { InPass pass.old pass.new (λ k l. Shows ⊥
-        (first_told (λ u. mappings_from (maps_of u 0) device from))
+    ensures range { InPass pass.old pass.new (λ k l. has_translator k translator ≡ false
+        → (result ≡ codes.range) × (l ≡ k) × (place.new ≡ place.old) × (list.new ≡ list.old)
+        × (count.new ≡ count.old)) }
+    ensures told { InPass pass.old pass.new (λ k l. has_translator k translator ≡ true → Shows ⊥
+        (first_told (λ u. mappings_from (maps_of u translator) device from))
         k l result place.old place.new (list.old, count.old) (list.new, count.new)) }
 {
     if pass.is_empty() {
         return HANDLE;
     }
-    told(pass.lent().mappings(device, from, list), place, count)
+    let port = pass.lent();
+    if !port.has_translator(translator) {
+        return RANGE;
+    }
+    told(
+        port.mappings(translator as u8, device, from, list),
+        place,
+        count,
+    )
 }
 
-/// The mapped collections from a number on, by rising number, as the devices are told.
+/// The mapped collections of a translator from a number on, by rising number, as the devices are
+/// told.
 #[unsafe(no_mangle)]
 pub extern "C" fn its_pass_list_collections(
     pass: &mut Pass,
+    translator: u32,
     from: u32,
     place: &mut u64,
     list: &mut [CollectionOut],
@@ -206,12 +243,19 @@ pub extern "C" fn its_pass_list_collections(
     ensures empty { pass.old.known ≡ None → (result ≡ codes.handle)
         × (place.new ≡ place.old) × (list.new ≡ list.old) × (count.new ≡ count.old) }
     ensures kept { machine_of pass.new ≡ machine_of pass.old }
-    ensures told { InPass pass.old pass.new (λ k l. Shows ⊥
-        (first_told (λ u. collections_from (maps_of u 0) from))
+    ensures range { InPass pass.old pass.new (λ k l. has_translator k translator ≡ false
+        → (result ≡ codes.range) × (l ≡ k) × (place.new ≡ place.old) × (list.new ≡ list.old)
+        × (count.new ≡ count.old)) }
+    ensures told { InPass pass.old pass.new (λ k l. has_translator k translator ≡ true → Shows ⊥
+        (first_told (λ u. collections_from (maps_of u translator) from))
         k l result place.old place.new (list.old, count.old) (list.new, count.new)) }
 {
     if pass.is_empty() {
         return HANDLE;
     }
-    told(pass.lent().collections(from, list), place, count)
+    let port = pass.lent();
+    if !port.has_translator(translator) {
+        return RANGE;
+    }
+    told(port.collections(translator as u8, from, list), place, count)
 }

@@ -22,7 +22,7 @@ fn led(pass: &mut Pass, device: u32, event: u32) -> (u32, u64, u32, u32, u32) {
         vcpu: 9,
     };
     let mut place = 99;
-    let code = its_pass_event(pass, device, event, &mut place, &mut out);
+    let code = its_pass_event(pass, 0, device, event, &mut place, &mut out);
     (code, place, out.cause, out.intid, out.vcpu)
 }
 
@@ -73,7 +73,7 @@ fn what_the_next_step_reads(rt: HostRuntime) {
         length: 9,
     }; 3];
     assert_eq!(rt;
-        its_pass_needs(&mut root, alloc, &mut place, &mut list, &mut count),
+        its_pass_needs(&mut root, alloc, 0, &mut place, &mut list, &mut count),
         DONE
     );
     assert_eq!(rt; (place, count, list[0].length), (21, 0, 9));
@@ -81,9 +81,9 @@ fn what_the_next_step_reads(rt: HostRuntime) {
         let word: u64 = word;
         its_pass_write_memory(&mut root, address, &word.to_le_bytes(), &mut place);
     }
-    its_pass_write_register(&mut root, 0x88, 8, 0x80, &mut place);
+    its_pass_write_register(&mut root, 0, 0x88, 8, 0x80, &mut place);
     assert_eq!(rt;
-        its_pass_needs(&mut root, alloc, &mut place, &mut list, &mut count),
+        its_pass_needs(&mut root, alloc, 0, &mut place, &mut list, &mut count),
         DONE
     );
     assert_eq!(rt; (place, count, list[2].length), (24, 2, 9));
@@ -118,7 +118,7 @@ fn tables_and_what_is_mapped(rt: HostRuntime) {
         itt: 0,
     }; 2];
     assert_eq!(rt;
-        its_pass_list_devices(&mut root, 0, &mut place, &mut devices, &mut count),
+        its_pass_list_devices(&mut root, 0, 0, &mut place, &mut devices, &mut count),
         DONE
     );
     assert_eq!(rt;
@@ -136,7 +136,7 @@ fn tables_and_what_is_mapped(rt: HostRuntime) {
         collection: 9,
     }; 2];
     assert_eq!(rt;
-        its_pass_list_events(&mut root, 7, 0, &mut place, &mut events, &mut count),
+        its_pass_list_events(&mut root, 0, 7, 0, &mut place, &mut events, &mut count),
         DONE
     );
     assert_eq!(rt;
@@ -153,7 +153,7 @@ fn tables_and_what_is_mapped(rt: HostRuntime) {
         vcpu: 9,
     }; 2];
     assert_eq!(rt;
-        its_pass_list_collections(&mut root, 0, &mut place, &mut collections, &mut count),
+        its_pass_list_collections(&mut root, 0, 0, &mut place, &mut collections, &mut count),
         DONE
     );
     assert_eq!(rt;

@@ -1,13 +1,16 @@
 //! A shared machine's making, its passes, and its end.
-ghost use Rattle.std.specs.Prelude.{◌≡◌, ◌≢◌, ◌<◌, ◌≤◌, ◌^◌, false, true, None, Some, Err};
+ghost use Rattle.std.specs.Prelude.{◌≡◌, ◌≢◌, ◌≤◌, false, true, None, Some, Err};
 ghost use Rattle.std.specs.Prelude.{IfOk, IfErr, is_none, is_some, length};
 ghost use Rattle.its_numbers.specs.Codes as codes;
 ghost use Rattle.its_numbers.specs.Descriptions.{is_in_range as in_range, description_of};
 ghost use Rattle.its_numbers.specs.Descriptions.{guest_limits_of};
-ghost use Rattle.its_numbers.specs.Limits.{IsTooMuch, IsTooMuchIn, is_over};
+ghost use Rattle.its_numbers.specs.Limits.{IsTooMuch, IsTooMuchIn, is_over, is_over_of};
 ghost use Rattle.its_numbers.specs.Unmade.{IsUnmade};
 ghost use Rattle.its_shared.specs.Knowing.{Known, can_split};
 ghost use Rattle.its_plain.specs.Machine.{IsDescription};
+ghost use Rattle.owned_machine.specs.Whole.{IsMachine};
+ghost use Rattle.owned_parts.specs.Owned.{state_of_parts};
+ghost use Rattle.its_shared.specs.Making as spec;
 ghost use Rattle.its_shared.specs.Making.{IsMadeWithin, IsShared, IsSharedFrom, shared};
 ghost use Rattle.its_shared.specs.Ports.{Splits};
 ghost use Rattle.its_shared.specs.Telling.{InPass};
@@ -16,23 +19,25 @@ use crate::pass::Pass;
 use crate::port::Port;
 use its_numbers::{
     DONE, DescriptionIn, FAULT, FULL, FillIn, GuestLimits, HANDLE, MakeFaultOut, NO_MEMORY, RANGE,
-    RedistributorIn, RequestersIn, WindowIn, description, guest_limits, is_in_range, is_past,
-    is_within, make_fault_out,
+    RedistributorIn, RequestersIn, TranslatorIn, WindowIn, description, guest_limits, is_in_range,
+    is_past, is_within, make_fault_out,
 };
 use its_plain::{Desc, MakeError};
 use its_types::Limits;
 use owned_machine::Machine as Owned;
+use owned_parts::Parts;
 use std::alloc::Global;
 use std::mem::replace;
 use step_views::{device_count, event_count};
 
-/// A machine for threads to share, as numbers describe it, restored from guest memory where they
-/// say so, if it maps no more than they say. The handle, which has no pass before, gets its root.
+/// A machine for threads to share, as numbers describe it, with one or two translators, restored
+/// from guest memory where they say so, if it maps no more than they say. The handle, which has no pass before, gets its root.
 #[unsafe(no_mangle)]
 pub extern "C" fn its_share(
     root: &mut Pass,
     alloc: Global,
     numbers: &DescriptionIn,
+    translators: &[TranslatorIn],
     windows: &[WindowIn],
     pending: &[u64],
     redistributors: &[RedistributorIn],
@@ -44,29 +49,30 @@ pub extern "C" fn its_share(
     ensures in_use { is_none root.old.known ≡ false → result ≡ codes.handle }
     ensures only_in_use { result ≡ codes.handle → is_none root.old.known ≡ false }
     ensures range { root.old.known ≡ None
-        → in_range numbers.now (length pending.now) (length redistributors.now) fills.now
-        (length bytes.now) ≡ false
+        → in_range numbers.now translators.now (length pending.now) (length redistributors.now)
+        fills.now (length bytes.now) ≡ false
         → result ≡ codes.range }
     ensures only_range { result ≡ codes.range
-        → in_range numbers.now (length pending.now) (length redistributors.now) fills.now
-        (length bytes.now) ≡ false }
+        → in_range numbers.now translators.now (length pending.now) (length redistributors.now)
+        fills.now (length bytes.now) ≡ false }
     ensures done { result ≡ codes.done
-        → IsShared (shared (description_of numbers.now windows.now pending.now redistributors.now
-        requesters.now fills.now bytes.now)) (guest_limits_of numbers.now) root.new.known }
+        → IsShared (shared (description_of numbers.now translators.now windows.now pending.now
+        redistributors.now requesters.now fills.now bytes.now)) (guest_limits_of numbers.now) root.new.known }
     ensures same { result ≢ codes.done → root.new ≡ root.old }
     ensures full { result ≡ codes.full
-        → IsTooMuch (shared (description_of numbers.now windows.now pending.now redistributors.now
-        requesters.now fills.now bytes.now)) (guest_limits_of numbers.now) }
+        → IsTooMuch (shared (description_of numbers.now translators.now windows.now pending.now
+        redistributors.now requesters.now fills.now bytes.now)) (guest_limits_of numbers.now) }
     ensures untold { result ≡ codes.full → fault.new ≡ fault.old }
     ensures unmade { result ≢ codes.full → IsUnmade result
-        (shared (description_of numbers.now windows.now pending.now redistributors.now
-        requesters.now fills.now bytes.now)) fault.old fault.new }
+        (shared (description_of numbers.now translators.now windows.now pending.now
+        redistributors.now requesters.now fills.now bytes.now)) fault.old fault.new }
 {
     if !root.is_empty() {
         return HANDLE;
     }
     if !is_in_range(
         numbers,
+        translators,
         pending.len(),
         redistributors.len(),
         fills,
@@ -77,6 +83,7 @@ pub extern "C" fn its_share(
     let Ok(mut desc) = description(
         alloc,
         numbers,
+        translators,
         windows,
         pending,
         redistributors,
@@ -87,10 +94,7 @@ pub extern "C" fn its_share(
         return NO_MEMORY;
     };
     desc.shards = 64;
-    desc.limits = Limits {
-        stamp_last: 255,
-        place_last: (1 << 56) - 1,
-    };
+    desc.limits = limits_of(translators.len());
     match made(alloc, &desc, guest_limits(numbers)) {
         Ok(Some(made)) => {
             *root = made;
@@ -105,14 +109,29 @@ pub extern "C" fn its_share(
     }
 }
 
+// A word has room for the stamps of all translators and a place.
+fn limits_of(translators: usize) -> Limits
+    ensures { result ≡ spec.limits_of translators }
+{
+    if translators == 1 {
+        Limits {
+            stamp_last: (1 << 8) - 1,
+            place_last: (1 << 56) - 1,
+        }
+    } else {
+        Limits {
+            stamp_last: (1 << 12) - 1,
+            place_last: (1 << 40) - 1,
+        }
+    }
+}
+
 // The handle of a root on the heap. None where the machine would begin with more than may be.
 fn made(alloc: Global, desc: &Desc, limits: GuestLimits) -> Result<Option<Pass>, MakeError>
     requires description { IsDescription desc.now }
     requires some_shards { 1 ≤ desc.now.shards }
     requires most_shards { desc.now.shards ≤ 64 }
-    requires stamps { desc.now.limits.stamp_last < 2 ^ 8 }
-    requires places { desc.now.limits.place_last < 2 ^ 56 }
-    requires one { length desc.now.translators ≡ 1 }
+    requires limits { desc.now.limits ≡ spec.limits_of (length desc.now.translators) }
     ensures made { IfOk result (IsMadeWithin desc.now limits) }
     ensures refused { IfErr result (λ e. IsSharedFrom desc.now (Err e)) }
 {
@@ -124,16 +143,24 @@ fn made(alloc: Global, desc: &Desc, limits: GuestLimits) -> Result<Option<Pass>,
     Ok(Some(Pass::of(Box::new(alloc, port)?)))
 }
 
-// More events, devices or pages than may be.
+// More events or devices of a translator than may be, or more pages.
 #[tactic(auto, unfolding(its_numbers::specs::Limits::is_over))]
 fn is_too_much(owned: &Owned, limits: &GuestLimits) -> bool
     ensures over { result ≡ false → is_over limits.now owned.now ≡ false }
     ensures much { result ≡ true → IsTooMuchIn limits.now owned.now }
 {
     let parts = owned.parts();
-    is_past(limits.events, event_count(parts, 0))
-        || is_past(limits.devices, u64::from(device_count(parts, 0)))
+    is_past_limits(parts, limits, 0)
+        || is_past_limits(parts, limits, 1)
         || !is_within(&parts.memory, limits.memory)
+}
+
+fn is_past_limits(parts: &Parts, limits: &GuestLimits, its: u8) -> bool
+    requires { IsMachine parts.now }
+    ensures { result ≡ is_over_of limits.now (state_of_parts parts.now) its }
+{
+    is_past(limits.events, event_count(parts, its))
+        || is_past(limits.devices, u64::from(device_count(parts, its)))
 }
 
 /// Another pass of the root's machine, which has seen what the root has. The handle has none

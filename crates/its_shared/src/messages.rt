@@ -7,7 +7,7 @@ ghost use Rattle.its_numbers.specs.Replies.{signal_out};
 ghost use Rattle.its_plain.specs.Doorbells.{route_of};
 ghost use Rattle.its_plain.specs.declared.call.Reply.TheVariants as reply;
 ghost use Rattle.its_shared.specs.Counting.{Counts};
-ghost use Rattle.its_shared.specs.Knowing.{setting};
+ghost use Rattle.its_shared.specs.Knowing.{has_translator, setting};
 ghost use Rattle.its_shared.specs.Asked as asked;
 ghost use Rattle.its_shared.specs.Asked.{is_count};
 ghost use Rattle.its_shared.specs.Telling.{Tells, as_told, dma_told, is_done};
@@ -17,14 +17,44 @@ use crate::telling::{tell_dma, tell_signal};
 use its_numbers::{DmaOut, RANGE, SignalOut};
 use its_plain::Bytes64;
 
-/// A device's message.
-pub fn signal(port: &mut Port, device: u32, event: u32, place: &mut u64, out: &mut SignalOut) -> u32
+/// A device's message to a translator.
+pub fn signal(
+    port: &mut Port,
+    translator: u32,
+    device: u32,
+    event: u32,
+    place: &mut u64,
+    out: &mut SignalOut,
+) -> u32
     ensures setting { setting port.new ≡ setting port.old }
-    ensures told { Tells is_done (as_told signal_out) (asked.signal device event) reply.Signal
+    ensures range { has_translator port.old translator ≡ false → (result ≡ codes.range)
+        × (port.new ≡ port.old) × (place.new ≡ place.old) × (out.new ≡ out.old) }
+    ensures told { has_translator port.old translator ≡ true → Tells is_done (as_told signal_out)
+        (asked.signal translator device event) reply.Signal
         port.old port.new result place.old place.new out.old out.new }
     ensures counts { Counts port.old port.new result }
 {
-    let answer = port.signal(device, event);
+    if !port.has_translator(translator) {
+        return RANGE;
+    }
+    signal_of(port, translator as u8, device, event, place, out)
+}
+
+fn signal_of(
+    port: &mut Port,
+    its: u8,
+    device: u32,
+    event: u32,
+    place: &mut u64,
+    out: &mut SignalOut,
+) -> u32
+    requires { has_translator port.old its ≡ true }
+    ensures setting { setting port.new ≡ setting port.old }
+    ensures told { Tells is_done (as_told signal_out) (asked.signal its device event) reply.Signal
+        port.old port.new result place.old place.new out.old out.new }
+    ensures counts { Counts port.old port.new result }
+{
+    let answer = port.signal(its, device, event);
     port.count_signal(&answer);
     tell_signal(answer, place, out)
 }

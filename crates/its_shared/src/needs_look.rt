@@ -1,10 +1,10 @@
-//! The stretches of guest memory that the next step reads, seen through a pass.
-ghost use Rattle.std.specs.Prelude.{◌≡◌, ◌∷◌, [], OnErr};
+//! The stretches of guest memory that the next step of a translator reads, seen through a pass.
+ghost use Rattle.std.specs.Prelude.{◌≡◌, ◌<◌, ◌∷◌, [], OnErr};
 ghost use Rattle.guest_windows.specs.Fields.{pairs};
 ghost use Rattle.held_parts.specs.Redists.{AreBeforeConfs};
 ghost use Rattle.held_parts.specs.Wholes.{maps_held};
 ghost use Rattle.its_steps.specs.Contents as content;
-ghost use Rattle.its_steps.specs.Parts.{vcpu_count};
+ghost use Rattle.its_steps.specs.Parts.{translator_count, vcpu_count};
 ghost use Rattle.its_steps.specs.World.{View, out, took};
 ghost use Rattle.its_turns.specs.Machines.{setup, view, IsOf};
 ghost use Rattle.its_types.specs.declared.machine.Part.TheVariants as part;
@@ -26,35 +26,37 @@ use lpi_pending::Redists;
 use owned_parts::{RedistSet, Translator};
 use std::alloc::Global;
 
-/// The stretches of guest memory that the next step reads: as many as the list takes, whose rest
-/// stays, and how many there are. Takes the maps and guest memory, and where the step reads
-/// configurations all of these, each at the first try.
+/// The stretches of guest memory that the next step of a translator reads: as many as the list
+/// takes, whose rest stays, and how many there are. Takes the maps and guest memory, and where the
+/// step reads configurations all of these, each at the first try.
 pub fn try_needs(
     alloc: Global,
     machine: &Machine,
     pass: &mut Pass,
+    its: u8,
     list: &mut [StretchOut],
 ) -> Result<Placed<u64>, Unseen>
     requires of { IsOf machine.now pass.old }
+    requires its { its < translator_count (setup machine.now) }
     requires free { (view pass.old).held ≡ [] }
     ensures of { IsOf machine.now pass.new }
     ensures free { (view pass.new).held ≡ [] }
-    ensures seen { Sees (Unit {0}) (λ u n. ListsAll (all u) list.old list.new n)
+    ensures seen { Sees (Unit {0}) (λ u n. ListsAll (all its u) list.old list.new n)
         (view pass.old) (view pass.new) result }
     ensures only { OnErr result (list.new ≡ list.old) }
 {
-    let maps = match try_take_maps(machine, pass, 0) {
+    let maps = match try_take_maps(machine, pass, its) {
         Ok(maps) => maps,
         Err(_) => return Err(Unseen::Busy),
     };
     let memory = match try_take_memory(machine, pass) {
         Ok(memory) => memory,
         Err(_) => {
-            put(machine, pass, Part::Maps(0), Value::Maps(maps));
+            put(machine, pass, Part::Maps(its), Value::Maps(maps));
             return Err(Unseen::Busy);
         }
     };
-    match seen_with(alloc, machine, pass, maps, memory) {
+    match seen_with(alloc, machine, pass, its, maps, memory) {
         Ok(told) => {
             put_tables(&told.reply, list);
             Ok(Placed {
@@ -71,20 +73,22 @@ fn seen_with(
     alloc: Global,
     machine: &Machine,
     pass: &mut Pass,
+    its: u8,
     maps: Box<Translator>,
     memory: Box<GuestMemory>,
 ) -> Result<Placed<Vec<(Addr, u64)>>, Unseen>
     requires of { IsOf machine.now pass.old }
+    requires its { its < translator_count (setup machine.now) }
     requires held { (view pass.old).held
         ≡ out part.Mem (content.Mem memory.value.memory memory.value.track)
-        ∷ maps_held 0 maps.value ∷ [] }
+        ∷ maps_held its maps.value ∷ [] }
     requires room { AreEmpty (vcpu_count (setup machine.now)) memory.value.redists }
     ensures of { IsOf machine.now pass.new }
     ensures free { (view pass.new).held ≡ [] }
     ensures seen { (v : View) → v.held ≡ [] →
-        view pass.old ≡ took (took v (part.Maps 0) (content.Maps (translator_of maps.value)))
+        view pass.old ≡ took (took v (part.Maps its) (content.Maps (translator_of maps.value)))
         part.Mem (content.Mem memory.value.memory memory.value.track) →
-        Sees (Unit {0}) (λ u xs. pairs xs.items ≡ reads_of u 0) v (view pass.new) result }
+        Sees (Unit {0}) (λ u xs. pairs xs.items ≡ reads_of u its) v (view pass.new) result }
 {
     let mut memory = memory;
     let shape = machine.desc().shape;
@@ -92,7 +96,7 @@ fn seen_with(
     let redists = &mut memory.redists;
     let told = seen_beside(alloc, machine, pass, reads, shape, redists);
     put(machine, pass, Part::Mem, Value::Mem(memory));
-    put(machine, pass, Part::Maps(0), Value::Maps(maps));
+    put(machine, pass, Part::Maps(its), Value::Maps(maps));
     told
 }
 

@@ -41,12 +41,12 @@ impl Model for Port {
 }
 
 impl Port {
-    ghost use Rattle.std.specs.Prelude.{◌≡◌, ◌<◌, ◌≤◌, ◌^◌, true, length, IfOk, MatchOption};
+    ghost use Rattle.std.specs.Prelude.{◌≡◌, ◌<◌, ◌≤◌, true, length, IfOk, MatchOption};
     ghost use Rattle.its_plain.specs.Described.{IsFirstState};
     ghost use Rattle.its_plain.specs.Machine.{IsDescription};
     ghost use Rattle.its_types.specs.Ranges.{most_vcpus};
     ghost use Rattle.its_shared.specs.Knowing as spec;
-    ghost use Rattle.its_shared.specs.Making.{IsFirst};
+    ghost use Rattle.its_shared.specs.Making.{IsFirst, limits_of};
     ghost use Rattle.its_shared.specs.Ports.{Splits};
 
     /// The root of the machine of one caller that the description makes, whose calls keep to these
@@ -61,9 +61,7 @@ impl Port {
         requires first { IsFirstState desc.now owned }
         requires some_shards { 1 ≤ desc.now.shards }
         requires most_shards { desc.now.shards ≤ 64 }
-        requires stamps { desc.now.limits.stamp_last < 2 ^ 8 }
-        requires places { desc.now.limits.place_last < 2 ^ 56 }
-        requires one { length desc.now.translators ≡ 1 }
+        requires limits { desc.now.limits ≡ limits_of (length desc.now.translators) }
         ensures made { IfOk result (IsFirst desc.now) }
         ensures start { IfOk result (λ k. k.view.setup.start ≡ owned) }
         ensures limits { IfOk result (λ k. k.limits ≡ limits) }
@@ -112,6 +110,14 @@ impl Port {
         ensures { self.new ≡ record self.old { limits = limits } }
     {
         self.limits = limits;
+    }
+
+    /// Whether there is a translator of this number.
+    pub fn has_translator(&self, translator: u32) -> bool
+        ensures has { result ≡ spec.has_translator self.now translator }
+        ensures few { result ≡ true → translator < 2 }
+    {
+        translator < u32::from(self.machine.translators())
     }
 
     /// Whether there is a virtual processor of this number.

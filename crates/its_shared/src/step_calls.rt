@@ -10,6 +10,7 @@ ghost use Rattle.its_shared.specs.Asked as asked;
 ghost use Rattle.its_shared.specs.Asked.{is_count};
 ghost use Rattle.its_shared.specs.Concerns.{AreConcerned, UnconcernedStay};
 ghost use Rattle.its_shared.specs.Counting.{Counts, KeepsRoutes};
+ghost use Rattle.its_shared.specs.Knowing.{has_translator};
 ghost use Rattle.its_shared.specs.Limits.{StepsWithin};
 ghost use Rattle.its_shared.specs.Telling.{read_code};
 ghost use Rattle.its_shared.specs.Telling.{InPass, Tells, as_told, bytes_told, is_done, machine_of};
@@ -21,27 +22,34 @@ use crate::pass::Pass;
 use its_numbers::{HANDLE, SaveFaultOut, StepOut};
 use std::alloc::Global;
 
-/// The translator takes its next command (IHI 0069, section 5.3).
+/// A translator takes its next command (IHI 0069, section 5.3).
 #[unsafe(no_mangle)]
-pub extern "C" fn its_pass_step(pass: &mut Pass, place: &mut u64, out: &mut StepOut) -> u32
+pub extern "C" fn its_pass_step(
+    pass: &mut Pass,
+    translator: u32,
+    place: &mut u64,
+    out: &mut StepOut,
+) -> u32
     ensures empty { pass.old.known ≡ None
         → (result ≡ codes.handle) × (place.new ≡ place.old) × (out.new ≡ out.old) }
     ensures kept { setting_of pass.new ≡ setting_of pass.old }
-    ensures told { InPass pass.old pass.new (λ k l. Tells is_done
-        (as_told (step_told out.new.concerned)) asked.step reply.Step
+    ensures range { InPass pass.old pass.new (λ k l. has_translator k translator ≡ false
+        → (result ≡ codes.range) × (l ≡ k) × (place.new ≡ place.old) × (out.new ≡ out.old)) }
+    ensures told { InPass pass.old pass.new (λ k l. has_translator k translator ≡ true
+        → Tells is_done (as_told (step_told out.new.concerned)) (asked.step translator) reply.Step
         k l result place.old place.new out.old out.new) }
     ensures unconcerned { InPass pass.old pass.new (λ k l. result ≡ codes.done → BeforeLast
-        (UnconcernedStay out.new.concerned) k.view.setup.start l.view.seen) }
+        (UnconcernedStay out.new.concerned translator) k.view.setup.start l.view.seen) }
     ensures concerned { InPass pass.old pass.new (λ k l. result ≡ codes.done → BeforeLast
-        (AreConcerned out.new.concerned) k.view.setup.start l.view.seen) }
-    ensures within { InPass pass.old pass.new (λ k l. StepsWithin k l result) }
+        (AreConcerned out.new.concerned translator) k.view.setup.start l.view.seen) }
+    ensures within { InPass pass.old pass.new (λ k l. StepsWithin translator k l result) }
     ensures counts { InPass pass.old pass.new (λ k l. Counts k l result) }
     ensures routes { InPass pass.old pass.new (λ k l. KeepsRoutes k l result) }
 {
     if pass.is_empty() {
         return HANDLE;
     }
-    step(pass.lent(), place, out)
+    step(pass.lent(), translator, place, out)
 }
 
 /// The tables are written to guest memory (KVM document arm-vgic-its).

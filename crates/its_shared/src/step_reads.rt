@@ -1,5 +1,5 @@
 //! What the next step reads of guest memory, before the configurations are known.
-ghost use Rattle.std.specs.Prelude.{◌≡◌, []};
+ghost use Rattle.std.specs.Prelude.{◌≡◌, ℕ, []};
 ghost use Rattle.its_plain.specs.Plain.{Plain};
 ghost use Rattle.its_shared.specs.Besides as spec;
 ghost use Rattle.step_views.specs.Reads.{reads, still_reads};
@@ -23,8 +23,8 @@ pub struct StepReads {
 
 /// What the next step of a translator reads, as memory has its command now.
 pub fn step_reads(regs: &Regs, maps: &Maps, memory: &Memory, shape: Shape) -> StepReads
-    ensures { (u : Plain) → spec.HasFirst u shape regs.now maps.now.maps memory.now
-        → reads u 0 ≡ spec.stretches shape u.redistributors result }
+    ensures { (u : Plain) (its : ℕ) → spec.HasParts u its shape regs.now maps.now.maps memory.now
+        → reads u its ≡ spec.stretches shape u.redistributors result }
 {
     match meet(regs, memory) {
         Met::Still(reply) => StepReads {

@@ -12,7 +12,7 @@ use crate::step_calls::{
 };
 use its_numbers::{
     AckOut, DONE, DescriptionIn, DmaOut, FillIn, HANDLE, NO_FAULT, OUTSIDE, RANGE, RequestersIn,
-    SaveFaultOut, SignalOut, StepOut, WindowIn,
+    SaveFaultOut, SignalOut, StepOut, TranslatorIn, WindowIn,
 };
 use std::alloc::Global;
 
@@ -25,8 +25,15 @@ pub const NUMBERS: DescriptionIn = DescriptionIn {
     programmed: 0,
     restored: 0,
     linux_guest: 0,
-    has_frames: 1,
     config: 0x8003_0000,
+    event_limit: u64::MAX,
+    device_limit: u64::MAX,
+    memory_limit: u64::MAX,
+};
+
+/// A translator at reset, to which devices write by address.
+pub const TRANSLATOR: TranslatorIn = TranslatorIn {
+    has_frames: 1,
     frames: 0x0808_0000,
     ctlr: 0,
     cbaser: 0,
@@ -34,9 +41,6 @@ pub const NUMBERS: DescriptionIn = DescriptionIn {
     cwriter: 0,
     baser0: 0,
     baser1: 0,
-    event_limit: u64::MAX,
-    device_limit: u64::MAX,
-    memory_limit: u64::MAX,
 };
 
 // 2 MiB.
@@ -61,45 +65,72 @@ pub const FILLS: [FillIn; 1] = [FillIn {
     length: 1,
 }];
 
-// The queue, both tables, the translator is enabled, and three commands are in the queue.
-const REGISTERS: [(u32, u32, u64); 5] = [
-    (0x100, 8, 0x8107_0000_8000_0200),
-    (0x108, 8, 0x8407_0000_8001_0200),
-    (0x80, 8, 0x8000_0000_8002_0000),
-    (0x0, 4, 1),
-    (0x88, 8, 0x60),
-];
+/// What the guest's driver of a translator writes: its queue, and its registers.
+pub struct Driver {
+    /// The number of the translator.
+    pub translator: u32,
+    /// Where its queue is.
+    pub queue: u64,
+    /// Three commands.
+    pub commands: [u64; 12],
+    /// Offsets, sizes and values of both tables, the queue, the enabling, and the queue's end.
+    pub registers: [(u32, u32, u64); 5],
+}
 
 // MAPD 7 with 4 bits, MAPC 0 to processor 1, MAPTI 7 2 to LPI 8192.
-const COMMANDS: [u64; 12] = [
-    0x7_0000_0008,
-    3,
-    0x8000_0000_800c_0000,
-    0,
-    9,
-    0,
-    0x8000_0000_0001_0000,
-    0,
-    0x7_0000_000a,
-    0x2000_0000_0002,
-    0,
-    0,
-];
+const FIRST: Driver = Driver {
+    translator: 0,
+    queue: 0x8002_0000,
+    commands: [
+        0x7_0000_0008,
+        3,
+        0x8000_0000_800c_0000,
+        0,
+        9,
+        0,
+        0x8000_0000_0001_0000,
+        0,
+        0x7_0000_000a,
+        0x2000_0000_0002,
+        0,
+        0,
+    ],
+    registers: [
+        (0x100, 8, 0x8107_0000_8000_0200),
+        (0x108, 8, 0x8407_0000_8001_0200),
+        (0x80, 8, 0x8000_0000_8002_0000),
+        (0x0, 4, 1),
+        (0x88, 8, 0x60),
+    ],
+};
 
 const NO_ACK: AckOut = AckOut {
     intid: 0,
     priority: 0,
 };
 
-const NO_SIGNAL: SignalOut = SignalOut {
+/// What no message tells.
+pub const NO_SIGNAL: SignalOut = SignalOut {
     cause: 9,
     vcpu: 0,
     intid: 0,
 };
 
-/// A machine of two processors, and what making it answers.
+/// What a save tells that has no fault.
+pub const NO_SAVE_FAULT: SaveFaultOut = SaveFaultOut {
+    kind: 0,
+    translator: 0,
+    device: 0,
+    region: 0,
+    number: 0,
+    other_region: 0,
+    other_number: 0,
+    other_translator: 0,
+};
+
+/// A machine of two processors and one translator, and what making it answers.
 pub fn shared(alloc: Global, root: &mut Pass) -> u32 {
-    shared_from(alloc, root, &NUMBERS, &FILLS, &[0xa1])
+    shared_from(alloc, root, &NUMBERS, &[TRANSLATOR], &FILLS, &[0xa1])
 }
 
 /// What making one answers that is described so.
@@ -107,6 +138,7 @@ pub fn shared_from(
     alloc: Global,
     root: &mut Pass,
     numbers: &DescriptionIn,
+    translators: &[TranslatorIn],
     fills: &[FillIn],
     bytes: &[u8],
 ) -> u32 {
@@ -115,6 +147,7 @@ pub fn shared_from(
         root,
         alloc,
         numbers,
+        translators,
         &WINDOWS,
         &PENDING,
         &[],
@@ -125,16 +158,22 @@ pub fn shared_from(
     )
 }
 
-/// The guest's driver, by one pass. How many commands ran, and the last place.
+/// The guest's driver of the first translator, by one pass.
 pub fn drive(pass: &mut Pass) -> (u32, u64) {
+    drive_by(pass, &FIRST)
+}
+
+/// The guest's driver, by one pass. How many commands ran, and the last place.
+pub fn drive_by(pass: &mut Pass, driver: &Driver) -> (u32, u64) {
+    let translator = driver.translator;
     let mut place = 0;
-    let mut at = 0x8002_0000;
-    for word in &COMMANDS {
+    let mut at = driver.queue;
+    for word in &driver.commands {
         its_pass_write_memory(pass, at, &word.to_le_bytes(), &mut place);
         at = at.wrapping_add(8);
     }
-    for (offset, size, value) in &REGISTERS {
-        its_pass_write_register(pass, *offset, *size, *value, &mut place);
+    for (offset, size, value) in &driver.registers {
+        its_pass_write_register(pass, translator, *offset, *size, *value, &mut place);
     }
     let mut ran: u32 = 0;
     for _ in 0..4u32 {
@@ -145,21 +184,27 @@ pub fn drive(pass: &mut Pass) -> (u32, u64) {
             address: 0,
             concerned: [0; 8],
         };
-        if its_pass_step(pass, &mut place, &mut step) == DONE && step.outcome == 1 {
+        if its_pass_step(pass, translator, &mut place, &mut step) == DONE && step.outcome == 1 {
             ran = ran.wrapping_add(1);
         }
     }
     (ran, place)
 }
 
-/// A message of event 2 of device 7: the code, its cause and its INTID.
+/// A message of event 2 of device 7 to the first translator: the code, its cause and its INTID.
 pub fn signalled(pass: &mut Pass) -> (u32, u32, u32) {
+    signalled_to(pass, 0)
+}
+
+/// The same to a translator.
+pub fn signalled_to(pass: &mut Pass, translator: u32) -> (u32, u32, u32) {
     let (mut place, mut out) = (0, NO_SIGNAL);
-    let code = its_pass_signal(pass, 7, 2, &mut place, &mut out);
+    let code = its_pass_signal(pass, translator, 7, 2, &mut place, &mut out);
     (code, out.cause, out.intid)
 }
 
-fn taken(pass: &mut Pass, vcpu: u32) -> (u32, u32, u32) {
+/// What a virtual processor acknowledges: the code, the INTID and the priority.
+pub fn taken(pass: &mut Pass, vcpu: u32) -> (u32, u32, u32) {
     let (mut place, mut out) = (0, NO_ACK);
     let code = its_pass_take(pass, vcpu, &mut place, &mut out);
     (code, out.intid, out.priority)
@@ -199,7 +244,7 @@ fn what_is_out_of_range_is_no_call(rt: HostRuntime) {
     assert_eq!(rt; taken(&mut pass, 2), (RANGE, 0, 0));
     let (mut place, mut value) = (77, 0);
     assert_eq!(rt;
-        its_pass_read_register(&mut pass, 0, 2, &mut place, &mut value),
+        its_pass_read_register(&mut pass, 0, 0, 2, &mut place, &mut value),
         RANGE
     );
     assert_eq!(rt;
@@ -255,7 +300,7 @@ fn each_other_call_once(rt: HostRuntime) {
     assert_eq!(rt; (place, ack.intid), (24, 8192));
     let mut value = 0;
     assert_eq!(rt;
-        its_pass_read_register(&mut root, 0x90, 8, &mut place, &mut value),
+        its_pass_read_register(&mut root, 0, 0x90, 8, &mut place, &mut value),
         DONE
     );
     assert_eq!(rt; value, 0x60);
@@ -267,14 +312,7 @@ fn each_other_call_once(rt: HostRuntime) {
         its_pass_write_lpi_register(&mut root, 1, 0, 4, 1, &mut place),
         DONE
     );
-    let mut fault = SaveFaultOut {
-        kind: 0,
-        device: 0,
-        region: 0,
-        number: 0,
-        other_region: 0,
-        other_number: 0,
-    };
+    let mut fault = NO_SAVE_FAULT;
     assert_eq!(rt;
         its_pass_save(&mut root, alloc, &mut place, &mut fault),
         DONE

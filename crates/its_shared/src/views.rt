@@ -27,15 +27,17 @@ impl Port {
     ghost use Rattle.its_shared.specs.Seeing.{ListsAll, ListsFirst, ListsNumbers, Sees, written};
     ghost use Rattle.step_views.specs.Destinations.{destination};
 
-    /// Where an event leads.
-    pub fn event(&mut self, device: u32, event: u32) -> Result<Placed<EventOut>, Unseen>
+    /// Where an event leads by a translator.
+    pub fn event(&mut self, its: u8, device: u32, event: u32) -> Result<Placed<EventOut>, Unseen>
+        requires { spec.has_translator self.old its ≡ true }
         ensures beside { spec.beside self.new ≡ spec.beside self.old }
-        ensures seen { Sees ⊥ (λ u x. x ≡ event_out (destination u 0 device event))
+        ensures seen { Sees ⊥ (λ u x. x ≡ event_out (destination u its device event))
             self.old.view self.new.view result }
     {
         let seen = match try_event(
             &self.machine,
             &mut self.pass,
+            its,
             DeviceId(device),
             EventId(event),
         ) {
@@ -83,55 +85,71 @@ impl Port {
         try_written(alloc, &self.machine, &mut self.pass, list)
     }
 
-    /// The stretches of guest memory that the next step reads.
-    pub fn needs(&mut self, alloc: Global, list: &mut [StretchOut]) -> Result<Placed<u64>, Unseen>
+    /// The stretches of guest memory that the next step of a translator reads.
+    pub fn needs(
+        &mut self,
+        alloc: Global,
+        its: u8,
+        list: &mut [StretchOut],
+    ) -> Result<Placed<u64>, Unseen>
+        requires { spec.has_translator self.old its ≡ true }
         ensures beside { spec.beside self.new ≡ spec.beside self.old }
-        ensures seen { Sees (Unit {0}) (λ u n. ListsAll (needed u) list.old list.new n)
+        ensures seen { Sees (Unit {0}) (λ u n. ListsAll (needed its u) list.old list.new n)
             self.old.view self.new.view result }
         ensures only { OnErr result (list.new ≡ list.old) }
     {
-        try_needs(alloc, &self.machine, &mut self.pass, list)
+        try_needs(alloc, &self.machine, &mut self.pass, its, list)
     }
 
-    /// The mapped devices from a DeviceID on.
-    pub fn devices(&mut self, from: u32, list: &mut [DeviceOut]) -> Result<Placed<u64>, Unseen>
+    /// The mapped devices of a translator from a DeviceID on.
+    pub fn devices(
+        &mut self,
+        its: u8,
+        from: u32,
+        list: &mut [DeviceOut],
+    ) -> Result<Placed<u64>, Unseen>
+        requires { spec.has_translator self.old its ≡ true }
         ensures beside { spec.beside self.new ≡ spec.beside self.old }
         ensures seen { Sees ⊥
-            (λ u n. ListsFirst (devices_from (maps_of u 0) from) list.old list.new n)
+            (λ u n. ListsFirst (devices_from (maps_of u its) from) list.old list.new n)
             self.old.view self.new.view result }
         ensures only { OnErr result (list.new ≡ list.old) }
     {
-        try_devices(&self.machine, &mut self.pass, from, list)
+        try_devices(&self.machine, &mut self.pass, its, from, list)
     }
 
     /// The mapped events of a device from an EventID on.
     pub fn mappings(
         &mut self,
+        its: u8,
         device: u32,
         from: u32,
         list: &mut [MappingOut],
     ) -> Result<Placed<u64>, Unseen>
+        requires { spec.has_translator self.old its ≡ true }
         ensures beside { spec.beside self.new ≡ spec.beside self.old }
         ensures seen { Sees ⊥
-            (λ u n. ListsFirst (mappings_from (maps_of u 0) device from) list.old list.new n)
+            (λ u n. ListsFirst (mappings_from (maps_of u its) device from) list.old list.new n)
             self.old.view self.new.view result }
         ensures only { OnErr result (list.new ≡ list.old) }
     {
-        try_mappings(&self.machine, &mut self.pass, device, from, list)
+        try_mappings(&self.machine, &mut self.pass, its, device, from, list)
     }
 
-    /// The mapped collections from a number on.
+    /// The mapped collections of a translator from a number on.
     pub fn collections(
         &mut self,
+        its: u8,
         from: u32,
         list: &mut [CollectionOut],
     ) -> Result<Placed<u64>, Unseen>
+        requires { spec.has_translator self.old its ≡ true }
         ensures beside { spec.beside self.new ≡ spec.beside self.old }
         ensures seen { Sees ⊥
-            (λ u n. ListsFirst (collections_from (maps_of u 0) from) list.old list.new n)
+            (λ u n. ListsFirst (collections_from (maps_of u its) from) list.old list.new n)
             self.old.view self.new.view result }
         ensures only { OnErr result (list.new ≡ list.old) }
     {
-        try_collections(&self.machine, &mut self.pass, from, list)
+        try_collections(&self.machine, &mut self.pass, its, from, list)
     }
 }

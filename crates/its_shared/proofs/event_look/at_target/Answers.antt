@@ -15,18 +15,18 @@ use Rattle.its_shared.proofs.event_look.at_target.Goals as goal
 
 pub try_take_pend-requires-clause-stands : goal.try_take_pend-requires-clause-stands
 try_take_pend-requires-clause-stands c =
-    target_there (setup c.args.machine.now) (translator_of c.args.maps.value) c.args.event.icid.0 c.args.vcpu c.requires.stood c.requires.goes
+    target_there (setup c.args.machine.now) c.args.its (translator_of c.args.maps.value) c.args.event.icid.0 c.args.vcpu c.requires.stood c.requires.goes
 
 pub put-requires-2-clause-stands : goal.put-requires-2-clause-stands
 put-requires-2-clause-stands c =
-    target_there (setup c.args.machine.now) (translator_of c.args.maps.value) c.args.event.icid.0 c.args.vcpu c.requires.stood c.requires.goes
+    target_there (setup c.args.machine.now) c.args.its (translator_of c.args.maps.value) c.args.event.icid.0 c.args.vcpu c.requires.stood c.requires.goes
 
 pub returns-in-Err-clause-seen : goal.returns-in-Err-clause-seen
 returns-in-Err-clause-seen c v bare first =
     let t = translator_of c.args.maps.value in
-    busy_second v (view c.args.pass.now) (view c.try_take_pend.new.pass) (view c.put.new.pass) (part.Maps 0) (part.Pend c.args.vcpu) (content.Maps t) first
+    busy_second v (view c.args.pass.now) (view c.try_take_pend.new.pass) (view c.put.new.pass) (part.Maps c.args.its) (part.Pend c.args.vcpu) (content.Maps t) first
     c.in-Err.field-0 c.in-Err.ensures.result c.put.ensures.view ⊥
-    (λ u d. (slice_get u.translators 0 ≡ Some t) × (d ≡ of_target u c.args.event (Some c.args.vcpu)))
+    (λ u d. (slice_get u.translators c.args.its ≡ Some t) × (d ≡ of_target u c.args.event (Some c.args.vcpu)))
 
 pub returns-clause-seen : goal.returns-clause-seen
 returns-clause-seen c v bare first =
@@ -40,7 +40,7 @@ returns-clause-seen c v bare first =
     let looks = c.look-word.ensures.looks in
     let second = c.in-Ok.ensures.result.0.view in
     let home = c.put-3.ensures.view ∙ ap released c.put-2.ensures.view in
-    let one = part.Maps 0 in
+    let one = part.Maps c.args.its in
     let two = part.Pend c.args.vcpu in
     let u = after v.setup.start z.seen in
     let right = second_right v y w x z one two (content.Maps t) (content.Pend p) first second word looks home in

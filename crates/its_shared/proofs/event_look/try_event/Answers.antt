@@ -15,9 +15,9 @@ returns-in-Ok-lead-clause-seen c =
     let t = translator_of c.in-Ok.maps.value in
     let event = c.in-Ok-lead.event in
     let vcpu = c.in-Ok-lead.vcpu in
-    sees_more ⊥ (λ u d. (slice_get u.translators 0 ≡ Some t) × (d ≡ of_target u event (Some vcpu)))
-    (λ u d. d ≡ destination u 0 c.args.dev.0 c.args.ev.0) (view c.args.pass.now) (view c.at_target.new.pass) c.at_target.result
-    (λ u d is. is.1 ∙ sym (c.in-Ok-lead.ensures.1 u (maps_are u t is.0 ∙ ap (λ (x : Translator). x.maps.maps) (sym c.deref.ensures))))
+    sees_more ⊥ (λ u d. (slice_get u.translators c.args.its ≡ Some t) × (d ≡ of_target u event (Some vcpu)))
+    (λ u d. d ≡ destination u c.args.its c.args.dev.0 c.args.ev.0) (view c.args.pass.now) (view c.at_target.new.pass) c.at_target.result
+    (λ u d is. is.1 ∙ sym (c.in-Ok-lead.ensures.1 u c.args.its (maps_are u c.args.its t is.0 ∙ ap (λ (x : Translator). x.maps.maps) (sym c.deref.ensures))))
     (c.at_target.ensures.seen (view c.args.pass.now) c.requires.free c.in-Ok.ensures.result.view)
 
 pub returns-in-Err-lead-clause-seen : goal.returns-in-Err-lead-clause-seen
@@ -30,7 +30,7 @@ returns-in-Err-lead-clause-seen c =
     let taken = c.in-Ok.ensures.result.view in
     let looks = c.look-word.ensures.looks in
     let u = after v.setup.start z.seen in
-    let right = one_right v w x z (part.Maps 0) (content.Maps t) taken c.look-word.result looks c.put.ensures.view in (
-      saw_one v w x z (part.Maps 0) (content.Maps t) taken c.look-word.result looks c.put.ensures.view,
-      sym (c.in-Err-lead.ensures u (maps_are u t right ∙ ap (λ (x : Translator). x.maps.maps) (sym c.deref.ensures))),
+    let right = one_right v w x z (part.Maps c.args.its) (content.Maps t) taken c.look-word.result looks c.put.ensures.view in (
+      saw_one v w x z (part.Maps c.args.its) (content.Maps t) taken c.look-word.result looks c.put.ensures.view,
+      sym (c.in-Err-lead.ensures u c.args.its (maps_are u c.args.its t right ∙ ap (λ (x : Translator). x.maps.maps) (sym c.deref.ensures))),
     )

@@ -8,10 +8,10 @@ use Rattle.its_shared.proofs.Shown.{shows_list}
 use Rattle.its_shared.proofs.look_calls.its_pass_list_collections.Goals as goal
 
 pub returns-clause-told : goal.returns-clause-told
-returns-clause-told c k l before later =
-    let old = c.lent.result.now in
+returns-clause-told c k l before later has =
+    let old = c.lent-port.result.now in
     let now = c.collections.new.self in
-    shows_of _ _ old now k l _ _ _ _ _ (same_some old k (sym c.lent.ensures.value ∙ (ap (λ (p : Pass). p.known) c.is_empty.ensures.1 ∙ before)))
+    shows_of _ _ old now k l _ _ _ _ _ (same_some old k (sym c.lent-port.ensures.value ∙ (ap (λ (p : Pass). p.known) c.is_empty.ensures.1 ∙ before)))
     (same_some now l later)
-    (shows_list (⊥) (λ u before after n. ListsFirst (collections_from (maps_of u 0) c.args.from) before after n) old now c.collections.result c.told.result c.args.place.now c.told.new.place c.args.list.now
+    (shows_list (⊥) (λ u before after n. ListsFirst (collections_from (maps_of u c.args.translator) c.args.from) before after n) old now c.collections.result c.told.result c.args.place.now c.told.new.place c.args.list.now
     c.collections.new.list c.args.count.now c.told.new.out c.collections.ensures.seen c.collections.ensures.only c.told.ensures.code c.told.ensures.place c.told.ensures.out)

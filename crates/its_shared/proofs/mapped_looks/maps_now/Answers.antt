@@ -14,6 +14,6 @@ returns-clause-seen c z home =
     let t = translator_of c.in-Ok.maps.value in
     let taken = c.in-Ok.ensures.result.view in
     let looks = c.look-word.ensures.looks in (
-      saw_one v w x z (part.Maps 0) (content.Maps t) taken c.look-word.result looks home,
-      maps_are (after v.setup.start z.seen) t (one_right v w x z (part.Maps 0) (content.Maps t) taken c.look-word.result looks home),
+      saw_one v w x z (part.Maps c.args.its) (content.Maps t) taken c.look-word.result looks home,
+      maps_are (after v.setup.start z.seen) c.args.its t (one_right v w x z (part.Maps c.args.its) (content.Maps t) taken c.look-word.result looks home),
     )

@@ -22,14 +22,14 @@ returns-clause-seen c v bare first =
     let memory = c.args.memory.value in
     let shape = c.desc.result.now.shape in
     let t = c.step_reads-reads.result in
-    sees_home v (view c.args.pass.now) (view c.seen_beside-told.new.pass) (view c.put-2.new.pass) (part.Maps 0) part.Mem
+    sees_home v (view c.args.pass.now) (view c.seen_beside-told.new.pass) (view c.put-2.new.pass) (part.Maps c.args.its) part.Mem
     (content.Maps (translator_of maps)) (content.Mem memory.memory memory.track) first (c.put-2.ensures.view ∙ ap released c.put.ensures.view) _
-    (λ u xs. pairs xs.items ≡ stretches shape u.redistributors t) (λ u xs. pairs xs.items ≡ reads u 0) c.seen_beside-told.result
+    (λ u xs. pairs xs.items ≡ stretches shape u.redistributors t) (λ u xs. pairs xs.items ≡ reads u c.args.its) c.seen_beside-told.result
     (λ u word xs machine maps_right mem_right is.
-    is ∙ sym (c.step_reads-reads.ensures u record {
+    is ∙ sym (c.step_reads-reads.ensures u c.args.its record {
       shape = ap (λ (l : Layout). l.shape) (sym machine.layout)
           ∙ (ap (λ (s : Setup). s.start.layout.shape) (sym (ap (λ (y : View). y.setup) first) ∙ c.requires.of.1) ∙ sym c.desc.ensures.shape);
-      translator_is = get_or_from_slice_get u.translators 0 (translator_of maps) no_translator maps_right
+      translator_is = get_or_from_slice_get u.translators c.args.its (translator_of maps) no_translator maps_right
           ∙ (λ d. record { regs = (sym c.deref.ensures d).regs; maps = (sym c.deref-2.ensures d).maps.maps });
       memory_is = mem_right.0 ∙ sym (ap (λ (m : GuestMemory). m.memory) c.deref-3.ensures);
     })) c.seen_beside-told.ensures.seen

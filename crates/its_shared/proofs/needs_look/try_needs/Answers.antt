@@ -16,9 +16,9 @@ use Rattle.its_shared.proofs.needs_look.try_needs.Goals as goal
 
 pub returns-in-Err-try_take_memory-clause-seen : goal.returns-in-Err-try_take_memory-clause-seen
 returns-in-Err-try_take_memory-clause-seen c =
-    busy_second (view c.args.pass.now) (view c.try_take_maps.new.pass) (view c.try_take_memory.new.pass) (view c.put.new.pass) (part.Maps 0) part.Mem
+    busy_second (view c.args.pass.now) (view c.try_take_maps.new.pass) (view c.try_take_memory.new.pass) (view c.put.new.pass) (part.Maps c.args.its) part.Mem
     (content.Maps (translator_of c.in-Ok.maps.value)) c.in-Ok.ensures.result.view c.in-Err-try_take_memory.field-0 c.in-Err-try_take_memory.ensures.result
-    c.put.ensures.view (Unit {0}) (λ u n. ListsAll (needed u) c.args.list.now c.args.list.now n)
+    c.put.ensures.view (Unit {0}) (λ u n. ListsAll (needed c.args.its u) c.args.list.now c.args.list.now n)
 
 pub returns-in-Err-seen_with-clause-seen : goal.returns-in-Err-seen_with-clause-seen
 returns-in-Err-seen_with-clause-seen c =
@@ -34,7 +34,7 @@ returns-in-Ok-seen_with-clause-seen c =
     (c.in-Ok-try_take_memory.ensures.result.0.view
     ∙ ap (λ (y : View). took y part.Mem (content.Mem memory.memory memory.track)) c.in-Ok.ensures.result.view) in
     let xs = c.deref.result.now in
-    let same : map stretch_out (pairs xs) ≡ needed _ =
+    let same : map stretch_out (pairs xs) ≡ needed c.args.its _ =
     ap (λ (ys : List (Addr × ℕ)). map stretch_out (pairs ys)) c.deref.ensures.value ∙ ap (map stretch_out) seen.1 in
     let e = c.put_tables.ensures in
     let long : length (map stretch_out (pairs xs)) ≡ length xs = length-map (pairs xs) stretch_out ∙ length-map xs (λ (y : Addr × ℕ). (y.0.0, y.1)) in

@@ -19,7 +19,7 @@ returns-clause-told c =
     let a = c.args in
     record {
       answer = c.write_register-answer.result;
-      answers = subst (λ (w : View). Answers (asked.write_register a.offset a.size a.value) ok a.port.now.view w c.write_register-answer.result) (sym (ap (λ (k : Known). k.view) (c.count_write.ensures a.size a.value)))
+      answers = subst (λ (w : View). Answers (asked.write_register a.its a.offset a.size a.value) ok a.port.now.view w c.write_register-answer.result) (sym (ap (λ (k : Known). k.view) (c.count_write.ensures a.its a.size a.value)))
           c.write_register-answer.ensures.answer;
       code_is = c.tell_unit.ensures.code;
       place_is = c.tell_unit.ensures.place;
@@ -30,17 +30,17 @@ pub returns-clause-counts : goal.returns-clause-counts
 returns-clause-counts c =
     let a = c.args in
     let e = c.write_register-answer.ensures in
-    counts_so (asked.write_register a.offset a.size a.value) ok a.port.now c.write_register-answer.new.self c.count_write.new.self c.tell_unit.result c.write_register-answer.result
-    (e.answer, ap (λ (b : Beside). b.2) e.beside, ap (λ (b : Beside). b.3) e.beside, (c.count_write.ensures a.size a.value), c.tell_unit.ensures.code)
+    counts_so (asked.write_register a.its a.offset a.size a.value) ok a.port.now c.write_register-answer.new.self c.count_write.new.self c.tell_unit.result c.write_register-answer.result
+    (e.answer, ap (λ (b : Beside). b.2) e.beside, ap (λ (b : Beside). b.3) e.beside, (c.count_write.ensures a.its a.size a.value), c.tell_unit.ensures.code)
 
 pub returns-clause-routes : goal.returns-clause-routes
 returns-clause-routes c =
     let a = c.args in
     let e = c.write_register-answer.ensures in
-    keeps_routes (asked.write_register a.offset a.size a.value) ok a.port.now c.write_register-answer.new.self c.count_write.new.self c.tell_unit.result c.write_register-answer.result (stays_written a.offset a.size a.value)
-    (e.answer, ap (λ (b : Beside). b.2) e.beside, ap (λ (b : Beside). b.3) e.beside, (c.count_write.ensures a.size a.value), c.tell_unit.ensures.code)
+    keeps_routes (asked.write_register a.its a.offset a.size a.value) ok a.port.now c.write_register-answer.new.self c.count_write.new.self c.tell_unit.result c.write_register-answer.result (stays_written a.its a.offset a.size a.value)
+    (e.answer, ap (λ (b : Beside). b.2) e.beside, ap (λ (b : Beside). b.3) e.beside, (c.count_write.ensures a.its a.size a.value), c.tell_unit.ensures.code)
 
 pub returns-clause-setting : goal.returns-clause-setting
 returns-clause-setting c =
     let a = c.args in
-    ap (λ (k : Known). setting k) (c.count_write.ensures a.size a.value) ∙ ap (λ (b : Beside). (b.0, b.1)) c.write_register-answer.ensures.beside
+    ap (λ (k : Known). setting k) (c.count_write.ensures a.its a.size a.value) ∙ ap (λ (b : Beside). (b.0, b.1)) c.write_register-answer.ensures.beside

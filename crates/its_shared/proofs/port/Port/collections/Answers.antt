@@ -8,5 +8,5 @@ use Rattle.its_shared.proofs.port.Port.collections.Goals as goal
 
 pub returns-clause-seen : goal.returns-clause-seen
 returns-clause-seen c =
-    subst (λ (k : Known). Sees ⊥ (λ u n. ListsFirst (collections_from (maps_of u 0) c.args.from) c.args.list.now c.try_collections.new.list n) k.view
+    subst (λ (k : Known). Sees ⊥ (λ u n. ListsFirst (collections_from (maps_of u c.args.its) c.args.from) c.args.list.now c.try_collections.new.list n) k.view
     (view c.try_collections.new.pass) c.try_collections.result) c.self.view_is c.try_collections.ensures.seen

@@ -8,5 +8,5 @@ use Rattle.its_shared.proofs.port.Port.devices.Goals as goal
 
 pub returns-clause-seen : goal.returns-clause-seen
 returns-clause-seen c =
-    subst (λ (k : Known). Sees ⊥ (λ u n. ListsFirst (devices_from (maps_of u 0) c.args.from) c.args.list.now c.try_devices.new.list n) k.view
+    subst (λ (k : Known). Sees ⊥ (λ u n. ListsFirst (devices_from (maps_of u c.args.its) c.args.from) c.args.list.now c.try_devices.new.list n) k.view
     (view c.try_devices.new.pass) c.try_devices.result) c.self.view_is c.try_devices.ensures.seen

@@ -10,6 +10,6 @@ use Rattle.its_shared.proofs.port.Port.read_register.Goals as goal
 pub returns-clause-answer : goal.returns-clause-answer
 returns-clause-answer c =
     let v = view c.self.inside.pass in
-    let w = view c.try_read_reg.new.pass in
-    of_known (asked.read_register c.args.offset c.args.size) reply.Value (known_by c.self.inside) c.args.self.now w (answer_of c.try_read_reg.result) c.answered.result c.self.view_is c.answered.ensures
-    (of_part (part.Maps 0) (asked.read_register c.args.offset c.args.size) reply.Value v w c.try_read_reg.result c.try_read_reg.ensures.answer)
+    let w = view c.try_read_at.new.pass in
+    of_known (asked.read_register c.args.its c.args.offset c.args.size) reply.Value (known_by c.self.inside) c.args.self.now w (answer_of c.try_read_at.result) c.answered.result c.self.view_is c.answered.ensures
+    (of_part (part.Maps c.args.its) (asked.read_register c.args.its c.args.offset c.args.size) reply.Value v w c.try_read_at.result c.try_read_at.ensures.answer)

@@ -10,6 +10,6 @@ use Rattle.its_shared.proofs.port.Port.write_register.Goals as goal
 pub returns-clause-answer : goal.returns-clause-answer
 returns-clause-answer c =
     let v = view c.self.inside.pass in
-    let w = view c.try_write_reg.new.pass in
-    of_known (asked.write_register c.args.offset c.args.size c.args.value) (λ _. reply.Ok) (known_by c.self.inside) c.args.self.now w (answer_of_tried c.try_write_reg.result) c.answered_tried.result c.self.view_is c.answered_tried.ensures
-    (of_write_register c.args.offset c.args.size c.args.value (IsOfTranslator 0) v w c.try_write_reg.result c.try_write_reg.ensures.answer)
+    let w = view c.try_write_at.new.pass in
+    of_known (asked.write_register c.args.its c.args.offset c.args.size c.args.value) (λ _. reply.Ok) (known_by c.self.inside) c.args.self.now w (answer_of_tried c.try_write_at.result) c.answered_tried.result c.self.view_is c.answered_tried.ensures
+    (of_write_register c.args.its c.args.offset c.args.size c.args.value (IsOfTranslator c.args.its) v w c.try_write_at.result c.try_write_at.ensures.answer)
