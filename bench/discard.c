@@ -44,10 +44,10 @@ static double run(struct machine *machine, uint32_t count)
     struct timespec begin, end;
     struct its_step_out step;
     uint32_t at;
-    made("its_write_register", its_write_register(&machine->its, 0x88, 8, 32 * (uint64_t)machine->place));
+    made("its_write_register", its_write_register(&machine->its, 0, 0x88, 8, 32 * (uint64_t)machine->place));
     clock_gettime(CLOCK_MONOTONIC, &begin);
     for (at = 0; at < count; at++) {
-        made("its_step", its_step(&machine->its, &step));
+        made("its_step", its_step(&machine->its, 0, &step));
         if (step.outcome != ITS_OUTCOME_RAN)
             exit(1);
     }
@@ -66,6 +66,7 @@ static void turn_on(struct its_handle *its, uint32_t vcpu)
 static void start(struct machine *machine, uint32_t vcpus)
 {
     static const struct its_redistributor_in off[MANY];
+    static const struct its_translator_in translator;
     const struct its_window_in window = {RAM, 0x40000000};
     const struct its_description_in numbers = {
         .vcpus = vcpus, .device_bits = 16, .lpi_bits = 16, .profile = 1, .programmed = 1,
@@ -73,13 +74,14 @@ static void start(struct machine *machine, uint32_t vcpus)
     struct its_make_fault_out fault;
     uint32_t vcpu;
     made("its_new",
-         its_new(&machine->its, &numbers, &window, 1, NULL, 0, off, vcpus, NULL, 0, NULL, 0, NULL, 0, &fault));
+         its_new(&machine->its, &numbers, &translator, 1, &window, 1, NULL, 0, off, vcpus, NULL, 0, NULL, 0, NULL, 0,
+                 &fault));
     for (vcpu = 0; vcpu < FEW; vcpu++)
         turn_on(&machine->its, vcpu);
-    made("its_write_register", its_write_register(&machine->its, 0x100, 8, 0x8107000080000200));
-    made("its_write_register", its_write_register(&machine->its, 0x108, 8, 0x8407000080010200));
-    made("its_write_register", its_write_register(&machine->its, 0x80, 8, VALID | QUEUE | 15));
-    made("its_write_register", its_write_register(&machine->its, 0x0, 4, 1));
+    made("its_write_register", its_write_register(&machine->its, 0, 0x100, 8, 0x8107000080000200));
+    made("its_write_register", its_write_register(&machine->its, 0, 0x108, 8, 0x8407000080010200));
+    made("its_write_register", its_write_register(&machine->its, 0, 0x80, 8, VALID | QUEUE | 15));
+    made("its_write_register", its_write_register(&machine->its, 0, 0x0, 4, 1));
     for (vcpu = 0; vcpu < FEW; vcpu++)
         ask(machine, 9, 0, VALID | (uint64_t)vcpu << 16 | vcpu);
     ask(machine, (uint64_t)7 << 32 | 8, 9, VALID | 0x800c0000);

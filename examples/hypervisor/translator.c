@@ -55,12 +55,13 @@ void translator_start(void)
                                                .event_limit = 4096,
                                                .device_limit = UINT64_MAX,
                                                .memory_limit = UINT64_MAX};
+    const struct its_translator_in translator = {0};
     const struct its_window_in window = {RAM, RAM_LENGTH};
     const struct its_redistributor_in redistributors[MOST_PROCESSORS] = {{0, 0, 0}};
     struct its_make_fault_out fault;
 
-    must("its_new", its_new(&its, &numbers, &window, 1, NULL, 0, redistributors, vcpus_count, NULL, 0, NULL, 0,
-                            NULL, 0, &fault));
+    must("its_new", its_new(&its, &numbers, &translator, 1, &window, 1, NULL, 0, redistributors, vcpus_count, NULL, 0,
+                            NULL, 0, NULL, 0, &fault));
 }
 
 /*
@@ -101,10 +102,10 @@ static bool copy_command(uint64_t *command)
     struct its_stretch_out needs[NEEDS];
     uint64_t count = 0;
 
-    must("its_needs", its_needs(&its, needs, NEEDS, &count));
+    must("its_needs", its_needs(&its, 0, needs, NEEDS, &count));
     if (count == 0 || !copy_in(needs[0].address, needs[0].length))
         return false;
-    must("its_needs", its_needs(&its, needs, NEEDS, &count));
+    must("its_needs", its_needs(&its, 0, needs, NEEDS, &count));
     for (uint64_t i = 1; i < count; i++)
         if (!copy_in(needs[i].address, needs[i].length))
             return false;
@@ -121,7 +122,7 @@ static bool step(uint32_t *concerned)
 
     if (!copy_command(command))
         return false;
-    answer = its_step(&its, &out);
+    answer = its_step(&its, 0, &out);
     if (answer == ITS_FULL || answer == ITS_NO_MEMORY) {
         print("hypervisor: a command stays in the queue: %s\n", word(ITS_LIST_ANSWERS, answer));
         return false;
@@ -156,10 +157,10 @@ void message(uint32_t device, uint32_t event)
     struct its_event_out where;
     struct its_signal_out out;
 
-    must("its_event", its_event(&its, device, event, &where));
+    must("its_event", its_event(&its, 0, device, event, &where));
     if (where.cause == ITS_CAUSE_DELIVERED)
         gather(1u << where.vcpu);
-    must("its_signal", its_signal(&its, device, event, &out));
+    must("its_signal", its_signal(&its, 0, device, event, &out));
     if (out.cause == ITS_CAUSE_DELIVERED)
         kick(&vcpus[out.vcpu]);
     counts.messages++;
@@ -198,10 +199,10 @@ void claim(struct vcpu *vcpu, uint32_t intid)
 static void control_access(uint32_t offset, struct access *access)
 {
     if (!access->is_write) {
-        must("its_read_register", its_read_register(&its, offset, access->size, &access->value));
+        must("its_read_register", its_read_register(&its, 0, offset, access->size, &access->value));
         return;
     }
-    must("its_write_register", its_write_register(&its, offset, access->size, access->value));
+    must("its_write_register", its_write_register(&its, 0, offset, access->size, access->value));
     if (offset == CTLR || (offset & ~7u) == CWRITER)
         take_commands();
 }

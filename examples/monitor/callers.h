@@ -124,7 +124,7 @@ static void write_register(struct caller *caller, uint32_t offset, uint32_t size
     uint32_t code, round = 0;
 
     do
-        code = its_pass_write_register(&caller->pass, offset, size, value, &place);
+        code = its_pass_write_register(&caller->pass, 0, offset, size, value, &place);
     while (again(caller, code, &round));
     if (code != ITS_DONE)
         fail("its_pass_write_register", code);
@@ -140,7 +140,7 @@ static void signal_event(struct caller *caller, uint32_t device, uint32_t event)
     char replied[32];
 
     do
-        code = its_pass_signal(&caller->pass, device, event, &place, &out);
+        code = its_pass_signal(&caller->pass, 0, device, event, &place, &out);
     while (again(caller, code, &round));
     if (code != ITS_DONE)
         fail("its_pass_signal", code);
@@ -181,7 +181,7 @@ static void step(struct caller *caller)
     char replied[32];
 
     do
-        code = its_pass_step(&caller->pass, &place, &out);
+        code = its_pass_step(&caller->pass, 0, &place, &out);
     while (again(caller, code, &round));
     if (code != ITS_DONE)
         fail("its_pass_step", code);
@@ -216,7 +216,7 @@ static size_t needs(struct caller *caller, struct its_stretch_out *list, size_t 
     uint32_t code, round = 0;
 
     do
-        code = its_pass_needs(&caller->pass, &place, list, length, &count);
+        code = its_pass_needs(&caller->pass, 0, &place, list, length, &count);
     while (again(caller, code, &round));
     if (code != ITS_DONE || count == 0 || count > length)
         fail("its_pass_needs", code);
@@ -239,7 +239,7 @@ static void check_lead(struct caller *caller, uint32_t device, uint32_t event, u
     uint32_t code, round = 0;
 
     do
-        code = its_pass_event(&caller->pass, device, event, &place, &out);
+        code = its_pass_event(&caller->pass, 0, device, event, &place, &out);
     while (again(caller, code, &round));
     if (code != ITS_DONE || out.cause != ITS_CAUSE_DELIVERED || out.vcpu != vcpu)
         fail("its_pass_event", code);
@@ -280,7 +280,7 @@ static int next_device(struct caller *caller, uint32_t from, struct its_device_o
     uint32_t code, round = 0;
 
     do
-        code = its_pass_list_devices(&caller->pass, from, &place, device, 1, &count);
+        code = its_pass_list_devices(&caller->pass, 0, from, &place, device, 1, &count);
     while (again(caller, code, &round));
     if (code != ITS_DONE)
         fail("its_pass_list_devices", code);

@@ -2,7 +2,7 @@
 //! was told: what threads.rs makes, over the C interface alone.
 use crate::raw::{
     Ack, Description, Event, Fill, MakeFault, Redistributor, Requesters, SaveFault, Signal, Step, Stretch,
-    Window,
+    Translator, Window,
 };
 use std::ffi::c_void;
 use std::ptr::null_mut;
@@ -34,6 +34,8 @@ extern "C" {
     pub fn its_share(
         root: *mut Pass,
         numbers: *const Description,
+        translators: *const Translator,
+        translators_len: usize,
         windows: *const Window,
         windows_len: usize,
         pending: *const u64,
@@ -51,10 +53,24 @@ extern "C" {
     pub fn its_split(root: *mut Pass, pass: *mut Pass) -> u32;
     fn its_pass_limits(pass: *mut Pass, events: u64, devices: u64, memory: u64) -> u32;
     fn its_pass_free(pass: *mut Pass) -> u32;
-    fn its_pass_signal(pass: *mut Pass, device: u32, event: u32, place: *mut u64, out: *mut Signal) -> u32;
+    fn its_pass_signal(
+        pass: *mut Pass,
+        translator: u32,
+        device: u32,
+        event: u32,
+        place: *mut u64,
+        out: *mut Signal,
+    ) -> u32;
     fn its_pass_take(pass: *mut Pass, vcpu: u32, place: *mut u64, out: *mut Ack) -> u32;
-    fn its_pass_write_register(pass: *mut Pass, offset: u32, size: u32, value: u64, place: *mut u64) -> u32;
-    fn its_pass_step(pass: *mut Pass, place: *mut u64, out: *mut Step) -> u32;
+    fn its_pass_write_register(
+        pass: *mut Pass,
+        translator: u32,
+        offset: u32,
+        size: u32,
+        value: u64,
+        place: *mut u64,
+    ) -> u32;
+    fn its_pass_step(pass: *mut Pass, translator: u32, place: *mut u64, out: *mut Step) -> u32;
     fn its_pass_write_memory(
         pass: *mut Pass,
         address: u64,
@@ -70,7 +86,14 @@ extern "C" {
         place: *mut u64,
     ) -> u32;
     fn its_pass_save(pass: *mut Pass, place: *mut u64, fault: *mut SaveFault) -> u32;
-    fn its_pass_event(pass: *mut Pass, device: u32, event: u32, place: *mut u64, out: *mut Event) -> u32;
+    fn its_pass_event(
+        pass: *mut Pass,
+        translator: u32,
+        device: u32,
+        event: u32,
+        place: *mut u64,
+        out: *mut Event,
+    ) -> u32;
     fn its_pass_pending(
         pass: *mut Pass,
         vcpu: u32,
@@ -81,6 +104,7 @@ extern "C" {
     ) -> u32;
     fn its_pass_needs(
         pass: *mut Pass,
+        translator: u32,
         place: *mut u64,
         list: *mut Stretch,
         len: usize,
@@ -95,6 +119,7 @@ extern "C" {
     ) -> u32;
     fn its_pass_list_devices(
         pass: *mut Pass,
+        translator: u32,
         from: u32,
         place: *mut u64,
         list: *mut Device,
@@ -202,13 +227,14 @@ impl Caller {
 
     pub fn write_register(&mut self, offset: u32, size: u32, value: u64) {
         let place =
-            self.made(|pass, place| unsafe { its_pass_write_register(pass, offset, size, value, place) });
+            self.made(|pass, place| unsafe { its_pass_write_register(pass, 0, offset, size, value, place) });
         self.note(place, format!("write {offset:#x} {size} {value:#x}"), "ok");
     }
 
     pub fn signal(&mut self, device: u32, event: u32) {
         let mut out = Signal::default();
-        let place = self.made(|pass, place| unsafe { its_pass_signal(pass, device, event, place, &mut out) });
+        let place =
+            self.made(|pass, place| unsafe { its_pass_signal(pass, 0, device, event, place, &mut out) });
         let replied = match out.cause {
             0 => format!("delivered {} {}", out.vcpu, out.intid),
             cause => format!("dropped {}", CAUSES[cause as usize]),
@@ -230,7 +256,7 @@ impl Caller {
 
     pub fn step(&mut self) {
         let mut out = Step::default();
-        let place = self.made(|pass, place| unsafe { its_pass_step(pass, place, &mut out) });
+        let place = self.made(|pass, place| unsafe { its_pass_step(pass, 0, place, &mut out) });
         assert_eq!(out.outcome, RAN, "the outcome of a step");
         self.note(place, "step".to_string(), format_args!("ran {}", OPS[out.op as usize]));
     }
@@ -249,7 +275,7 @@ impl Caller {
     pub fn needs(&mut self) -> Vec<Stretch> {
         let (mut list, mut count) = ([Stretch::default(); 2], 0);
         self.made(|pass, place| unsafe {
-            its_pass_needs(pass, place, list.as_mut_ptr(), list.len(), &mut count)
+            its_pass_needs(pass, 0, place, list.as_mut_ptr(), list.len(), &mut count)
         });
         list[..count as usize].to_vec()
     }
@@ -257,7 +283,7 @@ impl Caller {
     /// The virtual processor that an event leads to.
     pub fn lead(&mut self, device: u32, event: u32) -> u32 {
         let mut out = Event::default();
-        self.made(|pass, place| unsafe { its_pass_event(pass, device, event, place, &mut out) });
+        self.made(|pass, place| unsafe { its_pass_event(pass, 0, device, event, place, &mut out) });
         assert_eq!(out.cause, 0, "where device {device} and event {event} lead");
         out.vcpu
     }
@@ -283,7 +309,7 @@ impl Caller {
     pub fn next_device(&mut self, from: u32) -> Option<Device> {
         let (mut device, mut count) = (Device::default(), 0);
         self.made(|pass, place| unsafe {
-            its_pass_list_devices(pass, from, place, &mut device, 1, &mut count)
+            its_pass_list_devices(pass, 0, from, place, &mut device, 1, &mut count)
         });
         (count == 1).then_some(device)
     }

@@ -56,6 +56,7 @@ static void start(struct its_handle *its, uint32_t vcpus)
     uint64_t tables[MOST];
     struct its_description_in numbers = {.vcpus = vcpus, .device_bits = 16, .lpi_bits = 20, .profile = 1, .config = CONFIG,
                                          .event_limit = UINT64_MAX, .device_limit = UINT64_MAX, .memory_limit = UINT64_MAX};
+    const struct its_translator_in translator = {0};
     struct its_window_in window = {RAM, (uint64_t)1 << 30};
     struct its_fill_in fill = {CONFIG, sizeof bytes};
     struct its_make_fault_out unmade;
@@ -63,12 +64,14 @@ static void start(struct its_handle *its, uint32_t vcpus)
     for (uint32_t vcpu = 0; vcpu < vcpus; vcpu++)
         tables[vcpu] = PENDING + 0x20000 * (uint64_t)vcpu;
     made("its_new",
-         its_new(its, &numbers, &window, 1, tables, vcpus, NULL, 0, NULL, 0, &fill, 1, bytes, sizeof bytes, &unmade), ITS_DONE);
+         its_new(its, &numbers, &translator, 1, &window, 1, tables, vcpus, NULL, 0, NULL, 0, &fill, 1, bytes, sizeof bytes,
+                 &unmade),
+         ITS_DONE);
     slot = 0;
-    its_write_register(its, 0x100, 8, 0x8107000080000200);
-    its_write_register(its, 0x108, 8, 0x8407000080010200);
-    its_write_register(its, 0x80, 8, VALID | QUEUE);
-    its_write_register(its, 0, 4, 1);
+    its_write_register(its, 0, 0x100, 8, 0x8107000080000200);
+    its_write_register(its, 0, 0x108, 8, 0x8407000080010200);
+    its_write_register(its, 0, 0x80, 8, VALID | QUEUE);
+    its_write_register(its, 0, 0, 4, 1);
 }
 
 /* Puts a command into the queue's next place, and says how far the queue is written now. */
@@ -77,13 +80,13 @@ static void put(struct its_handle *its, uint64_t first, uint64_t second, uint64_
     uint64_t words[4] = {first, second, third, 0};
     made("its_write_memory", its_write_memory(its, QUEUE + 32 * (uint64_t)slot, (const uint8_t *)words, sizeof words), ITS_DONE);
     slot = (slot + 1) % PLACES;
-    made("its_write_register", its_write_register(its, 0x88, 8, 32 * (uint64_t)slot), ITS_DONE);
+    made("its_write_register", its_write_register(its, 0, 0x88, 8, 32 * (uint64_t)slot), ITS_DONE);
 }
 
 static void step(struct its_handle *its)
 {
     struct its_step_out out;
-    made("its_step", its_step(its, &out), ITS_DONE);
+    made("its_step", its_step(its, 0, &out), ITS_DONE);
     if (out.outcome != ITS_OUTCOME_RAN) {
         printf("command 0x%02x has outcome %u\n", out.op, out.outcome);
         exit(1);
@@ -160,7 +163,7 @@ static void time_events(uint32_t vcpus)
     TIME(vcpus, "MAPTI of a new event", 50, 100, put_new_events(&its, 1, 100), step(&its));
     put_new_events(&its, 1, 1);
     made("its_limit", its_limit(&its, EVENTS), ITS_DONE);
-    TIME(vcpus, "MAPTI that the limit refuses", 50, 100, , made("its_step", its_step(&its, &out), ITS_FULL));
+    TIME(vcpus, "MAPTI that the limit refuses", 50, 100, , made("its_step", its_step(&its, 0, &out), ITS_FULL));
     its_free(&its);
 }
 
@@ -172,8 +175,8 @@ static void time_best(struct its_handle *its, const char *name)
     snprintf(text, sizeof text, "its_best, %s", name);
     TIME(1U, text, 10, 100000, , its_best(its, 0, 255, &ack); sum += ack.intid);
     snprintf(text, sizeof text, "its_best and its_claim, its_signal, %s", name);
-    TIME(1U, text, 10, 100000, , its_best(its, 0, 255, &ack); its_claim(its, 0, ack.intid, &ack); its_signal(its, 0, 0, &signal);
-         sum += signal.intid);
+    TIME(1U, text, 10, 100000, , its_best(its, 0, 255, &ack); its_claim(its, 0, ack.intid, &ack);
+         its_signal(its, 0, 0, 0, &signal); sum += signal.intid);
     snprintf(text, sizeof text, "its_show, %s", name);
     TIME(1U, text, 10, 100000, , its_show(its, 0, &ack); sum += ack.intid);
 }
@@ -190,10 +193,10 @@ static void time_pending(void)
             map_device(&its, lpi / EVENTS);
         map_event(&its, lpi / EVENTS, lpi % EVENTS, 8192 + lpi);
     }
-    made("its_signal", its_signal(&its, 0, 0, &signal), ITS_DONE);
+    made("its_signal", its_signal(&its, 0, 0, 0, &signal), ITS_DONE);
     time_best(&its, "one LPI pending");
     for (uint32_t lpi = 0; lpi < LPIS; lpi++)
-        made("its_signal", its_signal(&its, lpi / EVENTS, lpi % EVENTS, &signal), ITS_DONE);
+        made("its_signal", its_signal(&its, 0, lpi / EVENTS, lpi % EVENTS, &signal), ITS_DONE);
     time_best(&its, "1,040,384 pending");
     its_free(&its);
 }

@@ -25,10 +25,11 @@ enum {
 
 enum { CTLR = 0x0, CBASER = 0x80, CWRITER = 0x88, CREADR = 0x90, BASER0 = 0x100, BASER1 = 0x108 };
 
-static const uint64_t FRAMES = 0x9000000000;
+#define FRAMES 0x9000000000 /* of the translator */
 static const struct its_window_in windows[] = {{RAM, 0x1000000000}};
 static const uint64_t pending[] = {PENDING_0, PENDING_1};
 static const struct its_requesters_in requesters[] = {{0x10, 0x1f, 7}};
+static const struct its_translator_in translator = {.has_frames = 1, .frames = FRAMES};
 
 /* The guest's memory. The library has a copy of it. */
 static uint8_t ram[RAM_SIZE];
@@ -63,8 +64,6 @@ static struct its_description_in description(void)
     numbers.lpi_bits = 16;
     numbers.profile = 1;
     numbers.config = CONFIG;
-    numbers.has_frames = 1;
-    numbers.frames = FRAMES;
     numbers.event_limit = UINT64_MAX;
     numbers.device_limit = UINT64_MAX;
     numbers.memory_limit = UINT64_MAX;
@@ -78,19 +77,19 @@ static void start(struct its_handle *its)
     struct its_make_fault_out fault;
     struct its_fill_in fill = {CONFIG, 1};
     ram[CONFIG - RAM] = 0xa1;
-    made("its_new", its_new(its, &numbers, windows, 1, pending, 2, NULL, 0, requesters, 1, &fill, 1, &ram[CONFIG - RAM], 1,
-                            &fault));
+    made("its_new", its_new(its, &numbers, &translator, 1, windows, 1, pending, 2, NULL, 0, requesters, 1, &fill, 1,
+                            &ram[CONFIG - RAM], 1, &fault));
 }
 
 static void store(struct its_handle *its, uint32_t offset, uint32_t size, uint64_t value)
 {
-    made("its_write_register", its_write_register(its, offset, size, value));
+    made("its_write_register", its_write_register(its, 0, offset, size, value));
 }
 
 static uint64_t load(struct its_handle *its, uint32_t offset, uint32_t size)
 {
     uint64_t value = 0;
-    made("its_read_register", its_read_register(its, offset, size, &value));
+    made("its_read_register", its_read_register(its, 0, offset, size, &value));
     return value;
 }
 
@@ -115,11 +114,11 @@ static uint64_t copy_needed(struct its_handle *its)
 {
     struct its_stretch_out list[18];
     uint64_t count, i;
-    made("its_needs", its_needs(its, list, 18, &count));
+    made("its_needs", its_needs(its, 0, list, 18, &count));
     if (count == 0)
         return 0;
     copy_in(its, list[0]);
-    made("its_needs", its_needs(its, list, 18, &count));
+    made("its_needs", its_needs(its, 0, list, 18, &count));
     for (i = 1; i < count; i++)
         copy_in(its, list[i]);
     return count;
@@ -145,7 +144,7 @@ static void run(struct its_handle *its)
     int steps;
     for (steps = 0; steps < 32768; steps++) {
         uint64_t stretches = copy_needed(its);
-        uint32_t answer = its_step(its, &step);
+        uint32_t answer = its_step(its, 0, &step);
         if (answer == ITS_FULL) {
             printf("full: one event more\n");
             made("its_limit", its_limit(its, 1));
@@ -181,16 +180,16 @@ static void run_lent(struct its_handle *its)
     struct its_step_out step;
     uint64_t count, i;
     size_t lent = 0, size = 0;
-    made("its_needs", its_needs(its, needed, 3, &count));
+    made("its_needs", its_needs(its, 0, needed, 3, &count));
     if (count == 0)
         return;
     lend(needed[0], list, &lent, bytes, &size);
     if (lent == 1) {
-        made("its_needs_of", its_needs_of(its, bytes, 32, needed, 3, &count));
+        made("its_needs_of", its_needs_of(its, 0, bytes, 32, needed, 3, &count));
         for (i = 1; i < count; i++)
             lend(needed[i], list, &lent, bytes, &size);
     }
-    made("its_step_with", its_step_with(its, list, lent, bytes, size, &step));
+    made("its_step_with", its_step_with(its, 0, list, lent, bytes, size, &step));
     tell_step(&step);
     printf("%zu stretches were lent, processors %" PRIx64 " are concerned\n", lent, step.concerned[0]);
 }
@@ -239,7 +238,7 @@ static void tell_signal(uint32_t device, uint32_t event, const struct its_signal
 static void send(struct its_handle *its, uint32_t device, uint32_t event)
 {
     struct its_signal_out signal;
-    made("its_signal", its_signal(its, device, event, &signal));
+    made("its_signal", its_signal(its, 0, device, event, &signal));
     tell_signal(device, event, &signal);
 }
 
@@ -278,7 +277,7 @@ static void write_by_address(struct its_handle *its, uint32_t requester, uint64_
 static void lead(struct its_handle *its, uint32_t device, uint32_t event)
 {
     struct its_event_out out;
-    made("its_event", its_event(its, device, event, &out));
+    made("its_event", its_event(its, 0, device, event, &out));
     printf("event %u %u leads to %s: lpi %u, collection %u, processor %u\n", device, event,
            word(ITS_LIST_CAUSES, out.cause), out.intid, out.collection, out.vcpu);
 }
@@ -317,6 +316,7 @@ static void list_pages(struct its_handle *its)
 static void move(struct its_handle *from, struct its_handle *to)
 {
     struct its_description_in numbers = description();
+    struct its_translator_in registers = translator;
     struct its_fill_in fills[32];
     struct its_save_fault_out unsaved;
     struct its_make_fault_out unmade;
@@ -338,13 +338,14 @@ static void move(struct its_handle *from, struct its_handle *to)
         size += page.length;
     }
     numbers.restored = 1;
-    numbers.ctlr = load(from, CTLR, 4);
-    numbers.cbaser = load(from, CBASER, 8);
-    numbers.creadr = load(from, CREADR, 8);
-    numbers.cwriter = load(from, CWRITER, 8);
-    numbers.baser0 = load(from, BASER0, 8);
-    numbers.baser1 = load(from, BASER1, 8);
-    made("its_new", its_new(to, &numbers, windows, 1, pending, 2, NULL, 0, requesters, 1, fills, pages, bytes, size, &unmade));
+    registers.ctlr = load(from, CTLR, 4);
+    registers.cbaser = load(from, CBASER, 8);
+    registers.creadr = load(from, CREADR, 8);
+    registers.cwriter = load(from, CWRITER, 8);
+    registers.baser0 = load(from, BASER0, 8);
+    registers.baser1 = load(from, BASER1, 8);
+    made("its_new", its_new(to, &numbers, &registers, 1, windows, 1, pending, 2, NULL, 0, requesters, 1, fills, pages, bytes,
+                            size, &unmade));
     made("its_free", its_free(from));
     free(bytes);
 }
@@ -371,7 +372,7 @@ static void programmed(void)
 
     memset(off, 0, sizeof off);
     numbers.programmed = 1;
-    made("its_new", its_new(&its, &numbers, windows, 1, NULL, 0, off, 2, NULL, 0, NULL, 0, NULL, 0, &fault));
+    made("its_new", its_new(&its, &numbers, &translator, 1, windows, 1, NULL, 0, off, 2, NULL, 0, NULL, 0, NULL, 0, &fault));
     made("its_write_lpi_register", its_write_lpi_register(&its, 0, 0x70, 8, CONFIG | 15));
     made("its_write_lpi_register", its_write_lpi_register(&its, 0, 0x78, 8, 0x4000000000000000 | PENDING_0));
     made("its_write_lpi_register", its_write_lpi_register(&its, 0, 0x0, 4, 1));
@@ -394,18 +395,20 @@ static void misuse(struct its_handle *its, struct its_handle *freed)
     struct its_handle other = ITS_NO_MACHINE;
 
     printf("no such processor: %u\n", its_take(its, 512, &ack));
-    printf("no such size: %u\n", its_read_register(its, CTLR, 3, &value));
+    printf("no such translator: %u\n", its_read_register(its, 1, CTLR, 4, &value));
+    printf("no such size: %u\n", its_read_register(its, 0, CTLR, 3, &value));
     printf("no memory there: %u\n", its_write_memory(its, UINT64_MAX, &byte, 1));
     printf("no memory to forget: %u\n", its_forget(its, 0, 1));
     printf("no bytes: %u\n", its_dma(its, 0x10, RAM, NULL, 0, &written));
     printf("no such word: %u\n", its_text(ITS_LIST_TABLES, 3, NULL, 0, &value));
     send(its, UINT32_MAX, UINT32_MAX);
-    printf("freed handle: %u\n", its_signal(freed, 7, 2, &signal));
+    printf("freed handle: %u\n", its_signal(freed, 0, 7, 2, &signal));
     printf("freed twice: %u\n", its_free(freed));
     printf("handle in use: %u\n",
-           its_new(its, &numbers, windows, 1, pending, 2, NULL, 0, NULL, 0, NULL, 0, NULL, 0, &fault));
+           its_new(its, &numbers, &translator, 1, windows, 1, pending, 2, NULL, 0, NULL, 0, NULL, 0, NULL, 0, &fault));
     numbers.config = 0;
-    printf("table outside: %u", its_new(&other, &numbers, windows, 1, pending, 2, NULL, 0, NULL, 0, NULL, 0, NULL, 0, &fault));
+    printf("table outside: %u",
+           its_new(&other, &numbers, &translator, 1, windows, 1, pending, 2, NULL, 0, NULL, 0, NULL, 0, NULL, 0, &fault));
     printf(", %s\n", word(ITS_LIST_MAKE_FAULTS, fault.kind));
 }
 

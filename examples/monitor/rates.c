@@ -123,10 +123,10 @@ static void act_signal(struct caller *caller)
     uint64_t place;
 
     if (way == PASSES) {
-        UNTIL_MADE(its_pass_signal(&caller->pass, caller->device, event, &place, &out));
+        UNTIL_MADE(its_pass_signal(&caller->pass, 0, caller->device, event, &place, &out));
     } else {
         lock();
-        done("its_signal", its_signal(&at.its, caller->device, event, &out));
+        done("its_signal", its_signal(&at.its, 0, caller->device, event, &out));
         unlock();
     }
     if (out.cause != ITS_CAUSE_DELIVERED)
@@ -143,13 +143,13 @@ static void command(struct caller *caller, uint64_t first, uint64_t second, uint
     queue_at = (queue_at + 32) % 4096;
     if (way == PASSES) {
         UNTIL_MADE(its_pass_write_memory(&caller->pass, from, bytes, sizeof words, &place));
-        UNTIL_MADE(its_pass_write_register(&caller->pass, 0x88, 8, queue_at, &place));
-        UNTIL_MADE(its_pass_step(&caller->pass, &place, &step));
+        UNTIL_MADE(its_pass_write_register(&caller->pass, 0, 0x88, 8, queue_at, &place));
+        UNTIL_MADE(its_pass_step(&caller->pass, 0, &place, &step));
     } else {
         lock();
         done("its_write_memory", its_write_memory(&at.its, from, bytes, sizeof words));
-        done("its_write_register", its_write_register(&at.its, 0x88, 8, queue_at));
-        done("its_step", its_step(&at.its, &step));
+        done("its_write_register", its_write_register(&at.its, 0, 0x88, 8, queue_at));
+        done("its_step", its_step(&at.its, 0, &step));
         unlock();
     }
     if (step.outcome != ITS_OUTCOME_RAN)
@@ -186,9 +186,9 @@ static void set(struct caller *root, uint32_t offset, uint32_t size, uint64_t va
     uint64_t place;
 
     if (way == PASSES)
-        UNTIL_MADE(its_pass_write_register(&root->pass, offset, size, value, &place));
+        UNTIL_MADE(its_pass_write_register(&root->pass, 0, offset, size, value, &place));
     else
-        done("its_write_register", its_write_register(&at.its, offset, size, value));
+        done("its_write_register", its_write_register(&at.its, 0, offset, size, value));
 }
 
 /* The guest's driver. The lock is free. */
@@ -218,6 +218,7 @@ static void drive(struct caller *root)
 /* A machine whose LPIs are all enabled, behind the root's pass or behind the handle. */
 static void start(struct caller *root)
 {
+    static const struct its_translator_in translator;
     static const struct its_window_in window = {0x80000000, 0x1000000};
     static const struct its_fill_in fill = {0x80030000, 57344};
     static uint8_t bytes[57344];
@@ -230,9 +231,9 @@ static void start(struct caller *root)
     for (i = 0; i < VCPUS; i++)
         pending[i] = TABLES + 0x10000 * i;
     if (way == PASSES)
-        done("its_share", its_share(&root->pass, &numbers, &window, 1, pending, VCPUS, NULL, 0, NULL, 0, &fill, 1, bytes, sizeof bytes, &fault));
+        done("its_share", its_share(&root->pass, &numbers, &translator, 1, &window, 1, pending, VCPUS, NULL, 0, NULL, 0, &fill, 1, bytes, sizeof bytes, &fault));
     else
-        done("its_new", its_new(&at.its, &numbers, &window, 1, pending, VCPUS, NULL, 0, NULL, 0, &fill, 1, bytes, sizeof bytes, &fault));
+        done("its_new", its_new(&at.its, &numbers, &translator, 1, &window, 1, pending, VCPUS, NULL, 0, NULL, 0, &fill, 1, bytes, sizeof bytes, &fault));
     drive(root);
 }
 

@@ -108,8 +108,8 @@ static struct seen look(struct its_handle *its)
     looking = true;
     seen.held = held;
     for (i = 0; i < 6; i++)
-        must_be_done(its_read_register(its, offsets[i], i != 0 ? 8 : 4, &seen.registers[i]));
-    must_be_done(its_event(its, 7, 2, &event));
+        must_be_done(its_read_register(its, 0, offsets[i], i != 0 ? 8 : 4, &seen.registers[i]));
+    must_be_done(its_event(its, 0, 7, 2, &event));
     seen.event[0] = event.cause;
     seen.event[1] = event.intid;
     seen.event[2] = event.vcpu;
@@ -150,8 +150,9 @@ static void play(void)
     static const uint8_t byte = 0xa1;
     static const uint64_t commands[12] = {0x0000000700000008, 3, 0x80000000800c0000, 0, 9, 0, 0x8000000000010000, 0,
                                           0x000000070000000a, 0x0000200000000002, 0, 0};
-    struct its_description_in numbers = {.vcpus = 2, .device_bits = 16, .lpi_bits = 16, .profile = 1, .config = 0x80030000, .has_frames = 1, .frames = 0x90000000,
+    struct its_description_in numbers = {.vcpus = 2, .device_bits = 16, .lpi_bits = 16, .profile = 1, .config = 0x80030000,
                                           .event_limit = UINT64_MAX, .device_limit = UINT64_MAX, .memory_limit = UINT64_MAX};
+    static const struct its_translator_in translator = {.has_frames = 1, .frames = 0x90000000};
     static const struct its_requesters_in requesters[1] = {{1, 1, 7}};
     struct its_handle its = ITS_NO_MACHINE;
     struct its_make_fault_out unmade;
@@ -164,20 +165,20 @@ static void play(void)
     uint64_t count, waiting;
     int i;
 
-    CALL(its_new(&its, &numbers, &window, 1, tables, 2, NULL, 0, requesters, 1, &fill, 1, &byte, 1,
+    CALL(its_new(&its, &numbers, &translator, 1, &window, 1, tables, 2, NULL, 0, requesters, 1, &fill, 1, &byte, 1,
                  &unmade));
-    CALL(its_write_register(&its, 0x100, 8, 0x8107000080000200));
-    CALL(its_write_register(&its, 0x108, 8, 0x8407000080010200));
-    CALL(its_write_register(&its, 0x80, 8, 0x8000000080020000));
-    CALL(its_write_register(&its, 0, 4, 1));
+    CALL(its_write_register(&its, 0, 0x100, 8, 0x8107000080000200));
+    CALL(its_write_register(&its, 0, 0x108, 8, 0x8407000080010200));
+    CALL(its_write_register(&its, 0, 0x80, 8, 0x8000000080020000));
+    CALL(its_write_register(&its, 0, 0, 4, 1));
     CALL(its_write_memory(&its, 0x80020000, (const uint8_t *)commands, sizeof commands));
-    CALL(its_write_register(&its, 0x88, 8, sizeof commands));
+    CALL(its_write_register(&its, 0, 0x88, 8, sizeof commands));
     for (i = 0; i < 3; i++) {
-        CALL(its_step(&its, &step));
+        CALL(its_step(&its, 0, &step));
         if (step.outcome != 1)
             exit(1);
     }
-    CALL(its_signal(&its, 7, 2, &signal));
+    CALL(its_signal(&its, 0, 7, 2, &signal));
     CALL(its_pending(&its, 1, list, 4, &waiting));
     CALL(its_dma(&its, 1, 0x801f0000, &byte, 1, &written));
     save("its_save", its_save, &its);

@@ -91,8 +91,8 @@ static void run(struct its_handle *its, uint32_t place, uint64_t first, uint64_t
     const uint64_t words[4] = {first, second, third, 0};
     struct its_step_out step;
     made("its_write_memory", its_write_memory(its, QUEUE + 32 * place, (const uint8_t *)words, sizeof words));
-    made("its_write_register", its_write_register(its, 0x88, 8, 32 * (place + 1)));
-    made("its_step", its_step(its, &step));
+    made("its_write_register", its_write_register(its, 0, 0x88, 8, 32 * (place + 1)));
+    made("its_step", its_step(its, 0, &step));
     if (step.outcome != ITS_OUTCOME_RAN)
         exit(1);
 }
@@ -112,10 +112,10 @@ static void turn_on(struct its_handle *its, uint32_t vcpu, uint64_t config)
 static void map_events(struct its_handle *its, uint64_t events)
 {
     uint64_t event;
-    made("its_write_register", its_write_register(its, 0x100, 8, 0x8107000080000200));
-    made("its_write_register", its_write_register(its, 0x108, 8, 0x8407000080010200));
-    made("its_write_register", its_write_register(its, 0x80, 8, VALID | QUEUE | 15));
-    made("its_write_register", its_write_register(its, 0x0, 4, 1));
+    made("its_write_register", its_write_register(its, 0, 0x100, 8, 0x8107000080000200));
+    made("its_write_register", its_write_register(its, 0, 0x108, 8, 0x8407000080010200));
+    made("its_write_register", its_write_register(its, 0, 0x80, 8, VALID | QUEUE | 15));
+    made("its_write_register", its_write_register(its, 0, 0x0, 4, 1));
     run(its, 0, 9, 0, VALID | (uint64_t)(VCPUS - 1) << 16);
     run(its, 1, (uint64_t)7 << 32 | 8, 9, VALID | 0x800c0000);
     for (event = 0; event < events; event++)
@@ -125,12 +125,13 @@ static void map_events(struct its_handle *its, uint64_t events)
 static void start(struct its_handle *its, uint64_t events)
 {
     static const struct its_redistributor_in off[VCPUS];
+    static const struct its_translator_in translator;
     const struct its_window_in window = {RAM, 1024 * MIB};
     const struct its_description_in numbers = {
         .vcpus = VCPUS, .device_bits = 16, .lpi_bits = 16, .profile = 1, .programmed = 1,
         .event_limit = UINT64_MAX, .device_limit = UINT64_MAX, .memory_limit = UINT64_MAX};
     struct its_make_fault_out fault;
-    made("its_new", its_new(its, &numbers, &window, 1, NULL, 0, off, VCPUS, NULL, 0, NULL, 0, NULL, 0, &fault));
+    made("its_new", its_new(its, &numbers, &translator, 1, &window, 1, NULL, 0, off, VCPUS, NULL, 0, NULL, 0, NULL, 0, &fault));
     turn_on(its, 0, CONFIG);
     turn_on(its, VCPUS - 1, OTHER_CONFIG);
     map_events(its, events);

@@ -137,7 +137,7 @@ if command -v "$compiler" >/dev/null; then
         echo "crates/its_cli/out/its_cli isn't there: the monitor's replies are not compared with those of its run"
     fi
     build many many.c heap.c && $runner "$work/many"
-    tell "512 processors" $?
+    tell "512 processors, and two translators" $?
     build room room.c && $runner "$work/room"
     tell "the memory of 512 processors, and of a save" $?
     build refusals refusals.c && $runner "$work/refusals"

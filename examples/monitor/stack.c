@@ -22,6 +22,7 @@ static const uint64_t FRAMES = 0x90000000;
 static struct its_handle its = ITS_NO_MACHINE, other = ITS_NO_MACHINE;
 static struct its_pass root = ITS_NO_PASS, pass = ITS_NO_PASS;
 static struct its_description_in numbers;
+static struct its_translator_in translator;
 static struct its_redistributor_in redistributors[VCPUS];
 static struct its_signal_out signalled;
 static struct its_dma_out written;
@@ -119,15 +120,15 @@ static void tell(const char *call, void (*act)(void))
 #define CALL(name, ...) \
     static void name(void) { code = __VA_ARGS__; }
 
-CALL(make, its_new(&its, &numbers, (struct its_window_in[]){{RAM, RAM_BYTES}}, 1, NULL, 0, redistributors, VCPUS,
+CALL(make, its_new(&its, &numbers, &translator, 1, (struct its_window_in[]){{RAM, RAM_BYTES}}, 1, NULL, 0, redistributors, VCPUS,
                    (struct its_requesters_in[]){{16, 31, 7}}, 1, NULL, 0, NULL, 0, &unmade))
-CALL(restore, its_new(&other, &numbers, (struct its_window_in[]){{RAM, RAM_BYTES}}, 1, NULL, 0, redistributors, VCPUS,
-                      (struct its_requesters_in[]){{16, 31, 7}}, 1, (struct its_fill_in[]){{RAM, RAM_BYTES}}, 1, memory,
+CALL(restore, its_new(&other, &numbers, &translator, 1, (struct its_window_in[]){{RAM, RAM_BYTES}}, 1, NULL, 0, redistributors,
+                      VCPUS, (struct its_requesters_in[]){{16, 31, 7}}, 1, (struct its_fill_in[]){{RAM, RAM_BYTES}}, 1, memory,
                       sizeof memory, &unmade))
 CALL(unmake, its_free(&other))
-CALL(read_register, its_read_register(&its, 0x90, 8, &value))
-CALL(write_register, its_write_register(&its, 0x88, 8, queue_at))
-CALL(enable, its_write_register(&its, 0, 4, 1))
+CALL(read_register, its_read_register(&its, 0, 0x90, 8, &value))
+CALL(write_register, its_write_register(&its, 0, 0x88, 8, queue_at))
+CALL(enable, its_write_register(&its, 0, 0, 4, 1))
 CALL(read_lpi_register, its_read_lpi_register(&its, 0, 0x70, 8, &value))
 CALL(turn_on, its_write_lpi_register(&its, 0, 0, 4, 1))
 CALL(invalidate, its_write_lpi_register(&its, 1, 0xb0, 8, 0))
@@ -136,60 +137,60 @@ CALL(read_memory, its_read_memory(&its, RAM, memory, sizeof memory))
 CALL(write_memory, its_write_memory(&its, RAM + 0x100000, memory, 0x20000))
 CALL(forget, its_forget(&its, RAM + 0x100000, 0x20000))
 CALL(next_page, its_next_page(&its, RAM, stretches))
-CALL(send, its_signal(&its, 7, 2, &signalled))
+CALL(send, its_signal(&its, 0, 7, 2, &signalled))
 CALL(dma_message, its_dma(&its, 16, FRAMES + 65600, bytes, 4, &written))
 CALL(dma_memory, its_dma(&its, 16, RAM + 0x140000, bytes, 64, &written))
-CALL(event, its_event(&its, 7, 2, &led))
+CALL(event, its_event(&its, 0, 7, 2, &led))
 CALL(take, its_take(&its, 0, &ack))
 CALL(show, its_show(&its, 0, &ack))
 CALL(best, its_best(&its, 0, 255, &ack))
 CALL(claim, its_claim(&its, 0, 8192, &ack))
 CALL(pending, its_pending(&its, 0, list, 64, &count))
-CALL(needs, its_needs(&its, stretches, 16, &count))
-CALL(step, its_step(&its, &stepped))
+CALL(needs, its_needs(&its, 0, stretches, 16, &count))
+CALL(step, its_step(&its, 0, &stepped))
 CALL(limit, its_limit(&its, 100000))
 CALL(save, its_save(&its, &unsaved))
 CALL(saved, its_written(&its, stretches, 16, &count))
 CALL(migrate, its_migrate(&its, &unsaved))
-CALL(list_devices, its_list_devices(&its, 0, devices, 4, &count))
-CALL(list_events, its_list_events(&its, 7, 0, mappings, 4, &count))
-CALL(list_collections, its_list_collections(&its, 0, collections, 4, &count))
+CALL(list_devices, its_list_devices(&its, 0, 0, devices, 4, &count))
+CALL(list_events, its_list_events(&its, 0, 7, 0, mappings, 4, &count))
+CALL(list_collections, its_list_collections(&its, 0, 0, collections, 4, &count))
 CALL(text, its_text(ITS_LIST_ANSWERS, 1, bytes, 64, &count))
 
-CALL(share, its_share(&root, &numbers, (struct its_window_in[]){{RAM, RAM_BYTES}}, 1, NULL, 0, redistributors, VCPUS,
-                      (struct its_requesters_in[]){{16, 31, 7}}, 1, NULL, 0, NULL, 0, &unmade))
-CALL(share_restored, its_share(&root, &numbers, (struct its_window_in[]){{RAM, RAM_BYTES}}, 1, NULL, 0, redistributors,
-                               VCPUS, (struct its_requesters_in[]){{16, 31, 7}}, 1, (struct its_fill_in[]){{RAM, RAM_BYTES}},
-                               1, memory, sizeof memory, &unmade))
+CALL(share, its_share(&root, &numbers, &translator, 1, (struct its_window_in[]){{RAM, RAM_BYTES}}, 1, NULL, 0, redistributors,
+                      VCPUS, (struct its_requesters_in[]){{16, 31, 7}}, 1, NULL, 0, NULL, 0, &unmade))
+CALL(share_restored, its_share(&root, &numbers, &translator, 1, (struct its_window_in[]){{RAM, RAM_BYTES}}, 1, NULL, 0,
+                               redistributors, VCPUS, (struct its_requesters_in[]){{16, 31, 7}}, 1,
+                               (struct its_fill_in[]){{RAM, RAM_BYTES}}, 1, memory, sizeof memory, &unmade))
 CALL(split, its_split(&root, &pass))
 CALL(pass_limits, its_pass_limits(&pass, 100000, 100000, UINT64_MAX))
 CALL(end_pass, its_pass_free(&pass))
 CALL(end_root, its_pass_free(&root))
-CALL(pass_send, its_pass_signal(&pass, 7, 2, &place, &signalled))
+CALL(pass_send, its_pass_signal(&pass, 0, 7, 2, &place, &signalled))
 CALL(pass_dma_message, its_pass_dma(&pass, 16, FRAMES + 65600, bytes, 4, &place, &written))
 CALL(pass_dma_memory, its_pass_dma(&pass, 16, RAM + 0x140000, bytes, 64, &place, &written))
 CALL(pass_take, its_pass_take(&pass, 0, &place, &ack))
 CALL(pass_show, its_pass_show(&pass, 0, &place, &ack))
 CALL(pass_best, its_pass_best(&pass, 0, 255, &place, &ack))
 CALL(pass_claim, its_pass_claim(&pass, 0, 8192, &place, &ack))
-CALL(pass_read_register, its_pass_read_register(&pass, 0x90, 8, &place, &value))
-CALL(pass_write_register, its_pass_write_register(&pass, 0x88, 8, queue_at, &place))
+CALL(pass_read_register, its_pass_read_register(&pass, 0, 0x90, 8, &place, &value))
+CALL(pass_write_register, its_pass_write_register(&pass, 0, 0x88, 8, queue_at, &place))
 CALL(pass_read_lpi_register, its_pass_read_lpi_register(&pass, 0, 0x70, 8, &place, &value))
 CALL(pass_turn_on, its_pass_write_lpi_register(&pass, 0, 0, 4, 1, &place))
 CALL(pass_invalidate, its_pass_write_lpi_register(&pass, 1, 0xb0, 8, 0, &place))
-CALL(pass_enable, its_pass_write_register(&pass, 0, 4, 1, &place))
-CALL(pass_step, its_pass_step(&pass, &place, &stepped))
+CALL(pass_enable, its_pass_write_register(&pass, 0, 0, 4, 1, &place))
+CALL(pass_step, its_pass_step(&pass, 0, &place, &stepped))
 CALL(pass_write_memory, its_pass_write_memory(&pass, RAM + 0x140000, bytes, 64, &place))
 CALL(pass_read_memory, its_pass_read_memory(&pass, RAM + 0x140000, bytes, 64, &place))
 CALL(pass_save, its_pass_save(&pass, &place, &unsaved))
-CALL(pass_event, its_pass_event(&pass, 7, 2, &place, &led))
+CALL(pass_event, its_pass_event(&pass, 0, 7, 2, &place, &led))
 CALL(pass_pending, its_pass_pending(&pass, 0, &place, list, 64, &count))
 CALL(pass_stored, its_pass_stored_lpi_registers(&pass, 0, &place, &redistributors[0]))
-CALL(pass_needs, its_pass_needs(&pass, &place, stretches, 16, &count))
+CALL(pass_needs, its_pass_needs(&pass, 0, &place, stretches, 16, &count))
 CALL(pass_saved, its_pass_written(&pass, &place, stretches, 16, &count))
-CALL(pass_list_devices, its_pass_list_devices(&pass, 0, &place, devices, 4, &count))
-CALL(pass_list_events, its_pass_list_events(&pass, 7, 0, &place, mappings, 4, &count))
-CALL(pass_list_collections, its_pass_list_collections(&pass, 0, &place, collections, 4, &count))
+CALL(pass_list_devices, its_pass_list_devices(&pass, 0, 0, &place, devices, 4, &count))
+CALL(pass_list_events, its_pass_list_events(&pass, 0, 7, 0, &place, mappings, 4, &count))
+CALL(pass_list_collections, its_pass_list_collections(&pass, 0, 0, &place, collections, 4, &count))
 
 /* Each command once: device 7 with 16 events, device 8 with 32,768, collections 0 and 1. */
 static const uint64_t commands[][4] = {
@@ -221,8 +222,8 @@ static const uint64_t bases[3][2] = {
 static void describe(void)
 {
     numbers = (struct its_description_in){.vcpus = VCPUS, .device_bits = 16, .lpi_bits = 16, .profile = 2, .programmed = 1,
-                                          .has_frames = 1, .frames = FRAMES,
                                           .event_limit = UINT64_MAX, .device_limit = UINT64_MAX, .memory_limit = UINT64_MAX};
+    translator = (struct its_translator_in){.has_frames = 1, .frames = FRAMES};
     memset(redistributors, 0, sizeof redistributors);
     memset(memory, 0xa1, sizeof memory);
     queue_at = 0;
@@ -234,11 +235,11 @@ static void describe_restored(void)
     uint32_t i;
 
     numbers.restored = 1;
-    numbers.ctlr = 1;
-    numbers.baser0 = bases[0][1];
-    numbers.baser1 = bases[1][1];
-    numbers.cbaser = bases[2][1];
-    numbers.creadr = numbers.cwriter = queue_at;
+    translator.ctlr = 1;
+    translator.baser0 = bases[0][1];
+    translator.baser1 = bases[1][1];
+    translator.cbaser = bases[2][1];
+    translator.creadr = translator.cwriter = queue_at;
     for (i = 0; i < VCPUS; i++)
         its_stored_lpi_registers(&its, i, &redistributors[i]);
     read_memory();
@@ -281,7 +282,7 @@ static void life_of_one(void)
     uint32_t i;
 
     for (i = 0; i < 3; i++)
-        its_write_register(&its, bases[i][0], 8, bases[i][1]);
+        its_write_register(&its, 0, bases[i][0], 8, bases[i][1]);
     for (i = 0; i < VCPUS; i++) {
         its_write_lpi_register(&its, i, 0x70, 8, CONFIG | 15);
         its_write_lpi_register(&its, i, 0x78, 8, TABLES + 0x10000 * i);
@@ -335,7 +336,7 @@ static void life_of_a_pass(void)
     uint32_t i;
 
     for (i = 0; i < 3; i++)
-        its_pass_write_register(&pass, bases[i][0], 8, bases[i][1], &place);
+        its_pass_write_register(&pass, 0, bases[i][0], 8, bases[i][1], &place);
     for (i = 0; i < VCPUS; i++) {
         its_pass_write_lpi_register(&pass, i, 0x70, 8, CONFIG | 15, &place);
         its_pass_write_lpi_register(&pass, i, 0x78, 8, TABLES + 0x10000 * i, &place);

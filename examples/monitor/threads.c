@@ -243,6 +243,7 @@ static void print_all(const struct caller *root, uint32_t driven, const struct c
 
 static void share(struct its_pass *root)
 {
+    static const struct its_translator_in translator;
     static const struct its_window_in window = {RAM, RAM_BYTES};
     static const struct its_fill_in fill = {CONFIG, LPIS};
     struct its_description_in numbers = {0};
@@ -263,7 +264,8 @@ static void share(struct its_pass *root)
         pending[i] = 0x80040000u + 0x10000u * i;
     memset(bytes, 0xa1, sizeof bytes);
     memset(ram + (CONFIG - RAM), 0xa1, sizeof bytes);
-    code = its_share(root, &numbers, &window, 1, pending, VCPUS, NULL, 0, NULL, 0, &fill, 1, bytes, LPIS, &fault);
+    code = its_share(root, &numbers, &translator, 1, &window, 1, pending, VCPUS, NULL, 0, NULL, 0, &fill, 1, bytes, LPIS,
+                     &fault);
     if (code != ITS_DONE)
         fail("its_share", code);
 }

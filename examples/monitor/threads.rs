@@ -12,7 +12,7 @@ mod callers;
 mod raw;
 
 use callers::{its_share, its_split, Call, Caller, Device, Pass, DONE};
-use raw::{Description, Fill, MakeFault, Stretch, Window};
+use raw::{Description, Fill, MakeFault, Stretch, Translator, Window};
 use std::ptr::{null, null_mut};
 use std::sync::atomic::{AtomicUsize, Ordering::SeqCst};
 use std::time::Duration;
@@ -207,8 +207,8 @@ fn share() -> Pass {
     let (bytes, mut fault, mut root) = ([0xa1; LPIS], MakeFault::default(), Pass { at: null_mut() });
     #[rustfmt::skip]
     let code = unsafe {
-        its_share(&mut root, &numbers, &window, 1, TABLES.as_ptr(), TABLES.len(), null(), 0, null(), 0, &fill, 1,
-                  bytes.as_ptr(), bytes.len(), &mut fault)
+        its_share(&mut root, &numbers, &Translator::default(), 1, &window, 1, TABLES.as_ptr(), TABLES.len(), null(), 0,
+                  null(), 0, &fill, 1, bytes.as_ptr(), bytes.len(), &mut fault)
     };
     assert_eq!(code, DONE, "what its_share answers: {fault:?}");
     root

@@ -51,11 +51,13 @@ static void start(struct its_handle *its, uint64_t length)
     static uint8_t bytes[57344];
     struct its_description_in numbers = {.vcpus = 2, .device_bits = 16, .lpi_bits = 16, .profile = 1, .config = CONFIG,
                                          .event_limit = UINT64_MAX, .device_limit = UINT64_MAX, .memory_limit = UINT64_MAX};
+    const struct its_translator_in translator = {0};
     struct its_window_in window = {RAM, length};
     struct its_fill_in fill = {CONFIG, sizeof bytes};
     struct its_make_fault_out unmade;
     memset(bytes, 0xa1, sizeof bytes);
-    made("its_new", its_new(its, &numbers, &window, 1, TABLES, 2, NULL, 0, NULL, 0, &fill, 1, bytes, sizeof bytes, &unmade));
+    made("its_new", its_new(its, &numbers, &translator, 1, &window, 1, TABLES, 2, NULL, 0, NULL, 0, &fill, 1, bytes, sizeof bytes,
+                            &unmade));
 }
 
 /* Puts a command into the queue's next place, and says how far the queue is written now. */
@@ -64,14 +66,14 @@ static void put(struct its_handle *its, uint64_t first, uint64_t second, uint64_
     uint64_t words[4] = {first, second, third, 0};
     made("its_write_memory", its_write_memory(its, QUEUE + 32 * (uint64_t)slot, (const uint8_t *)words, sizeof words));
     slot = (slot + 1) % 128;
-    made("its_write_register", its_write_register(its, 0x88, 8, 32 * (uint64_t)slot));
+    made("its_write_register", its_write_register(its, 0, 0x88, 8, 32 * (uint64_t)slot));
 }
 
 static void run(struct its_handle *its, uint64_t first, uint64_t second, uint64_t third)
 {
     struct its_step_out step;
     put(its, first, second, third);
-    made("its_step", its_step(its, &step));
+    made("its_step", its_step(its, 0, &step));
     if (step.outcome != ITS_OUTCOME_RAN) {
         printf("command 0x%02x has outcome %u\n", step.op, step.outcome);
         exit(1);
@@ -82,10 +84,10 @@ static void run(struct its_handle *its, uint64_t first, uint64_t second, uint64_
 static void drive(struct its_handle *its)
 {
     slot = 0;
-    its_write_register(its, 0x100, 8, 0x8107000080000200);
-    its_write_register(its, 0x108, 8, 0x8407000080010200);
-    its_write_register(its, 0x80, 8, 0x8000000000000000 | QUEUE);
-    its_write_register(its, 0, 4, 1);
+    its_write_register(its, 0, 0x100, 8, 0x8107000080000200);
+    its_write_register(its, 0, 0x108, 8, 0x8407000080010200);
+    its_write_register(its, 0, 0x80, 8, 0x8000000000000000 | QUEUE);
+    its_write_register(its, 0, 0, 4, 1);
     run(its, 9, 0, 0x8000000000010000);
     for (uint64_t device = 0; device < DEVICES; device++) {
         run(its, device << 32 | 8, BITS - 1, 0x8000000000000000 | (ITTS + 0x400 * device));
@@ -101,10 +103,10 @@ static void time_saves(const char *name, uint64_t pages)
     struct its_save_fault_out unsaved;
     start(&its, (uint64_t)1 << 30);
     slot = 0;
-    its_write_register(&its, 0x100, 8, 0x8107000080000200);
-    its_write_register(&its, 0x108, 8, 0x8407000080010200);
-    its_write_register(&its, 0x80, 8, 0x8000000000000000 | QUEUE);
-    its_write_register(&its, 0, 4, 1);
+    its_write_register(&its, 0, 0x100, 8, 0x8107000080000200);
+    its_write_register(&its, 0, 0x108, 8, 0x8407000080010200);
+    its_write_register(&its, 0, 0x80, 8, 0x8000000000000000 | QUEUE);
+    its_write_register(&its, 0, 0, 4, 1);
     run(&its, 9, 0, 0x8000000000010000);
     run(&its, (uint64_t)7 << 32 | 8, 0, 0x8000000000000000 | ITTS);
     run(&its, (uint64_t)7 << 32 | 0xa, (uint64_t)8192 << 32, 0);
@@ -127,9 +129,10 @@ static void start_many(struct its_handle *its, uint64_t apart)
     static const struct its_redistributor_in off[VCPUS];
     struct its_description_in numbers = {.vcpus = VCPUS, .device_bits = 16, .lpi_bits = 16, .profile = 1, .programmed = 1,
                                          .event_limit = UINT64_MAX, .device_limit = UINT64_MAX, .memory_limit = UINT64_MAX};
+    const struct its_translator_in translator = {0};
     struct its_window_in window = {RAM, (uint64_t)1 << 30};
     struct its_make_fault_out unmade;
-    made("its_new", its_new(its, &numbers, &window, 1, NULL, 0, off, VCPUS, NULL, 0, NULL, 0, NULL, 0, &unmade));
+    made("its_new", its_new(its, &numbers, &translator, 1, &window, 1, NULL, 0, off, VCPUS, NULL, 0, NULL, 0, NULL, 0, &unmade));
     for (uint32_t vcpu = 0; vcpu < VCPUS; vcpu++) {
         its_write_lpi_register(its, vcpu, 0x70, 8, (CONFIG + apart * vcpu) | 15);
         its_write_lpi_register(its, vcpu, 0x78, 8, (uint64_t)1 << 62 | TABLES[0]);
@@ -147,11 +150,11 @@ static void time_many(const char *tables, uint64_t apart)
     uint64_t count;
     start_many(&its, apart);
     snprintf(name, sizeof name, "512 processors, %s: its_needs, nothing", tables);
-    TIME(name, COUNT, its_needs(&its, list, VCPUS + 1, &count); sum += count);
+    TIME(name, COUNT, its_needs(&its, 0, list, VCPUS + 1, &count); sum += count);
     put(&its, (uint64_t)7 << 32 | 0xc, 2, 0);
     snprintf(name, sizeof name, "512 processors, %s: its_needs, an INV", tables);
-    TIME(name, 10000, its_needs(&its, list, VCPUS + 1, &count); sum += count);
-    made("its_step", its_step(&its, &step));
+    TIME(name, 10000, its_needs(&its, 0, list, VCPUS + 1, &count); sum += count);
+    made("its_step", its_step(&its, 0, &step));
     snprintf(name, sizeof name, "512 processors, %s: INV", tables);
     TIME(name, 10000, run(&its, (uint64_t)7 << 32 | 0xc, 2, 0));
     snprintf(name, sizeof name, "512 processors, %s: INT", tables);
@@ -173,20 +176,20 @@ int main(void)
 
     start(&its, (uint64_t)64 << 30);
     drive(&its);
-    TIME("its_signal, pending already", COUNT, its_signal(&its, 7, 2, &signal); sum += signal.intid);
-    TIME("its_signal and its_take", COUNT, its_signal(&its, 7, 2, &signal); its_take(&its, 1, &ack); sum += ack.intid);
-    TIME("its_signal, its_best and its_claim", COUNT, its_signal(&its, 7, 2, &signal); its_best(&its, 1, 255, &ack);
+    TIME("its_signal, pending already", COUNT, its_signal(&its, 0, 7, 2, &signal); sum += signal.intid);
+    TIME("its_signal and its_take", COUNT, its_signal(&its, 0, 7, 2, &signal); its_take(&its, 1, &ack); sum += ack.intid);
+    TIME("its_signal, its_best and its_claim", COUNT, its_signal(&its, 0, 7, 2, &signal); its_best(&its, 1, 255, &ack);
          its_claim(&its, 1, ack.intid, &ack); sum += ack.intid);
-    TIME("its_event", COUNT, its_event(&its, 7, 2, &event); sum += event.intid);
-    TIME("its_read_register", COUNT, its_read_register(&its, 0x90, 8, &value); sum += value);
+    TIME("its_event", COUNT, its_event(&its, 0, 7, 2, &event); sum += event.intid);
+    TIME("its_read_register", COUNT, its_read_register(&its, 0, 0x90, 8, &value); sum += value);
     TIME("its_write_memory of 32 bytes", COUNT, its_write_memory(&its, QUEUE, memory, 32));
     TIME("its_write_memory of 2 MiB", 20, its_write_memory(&its, RAM + 16 * MIB, memory, sizeof memory));
     TIME("memcpy of 2 MiB", 20, memcpy(other, memory, sizeof memory); memory[i] = other[i + 1]);
     TIME("its_read_memory of 2 MiB", 20, its_read_memory(&its, RAM + 16 * MIB, memory, sizeof memory); sum += memory[0]);
-    TIME("its_needs, nothing to take", COUNT, its_needs(&its, list, 18, &count); sum += count);
+    TIME("its_needs, nothing to take", COUNT, its_needs(&its, 0, list, 18, &count); sum += count);
     put(&its, (uint64_t)7 << 32 | 0xc, 2, 0);
-    TIME("its_needs, an INV", COUNT, its_needs(&its, list, 18, &count); sum += count);
-    made("its_step", its_step(&its, &step));
+    TIME("its_needs, an INV", COUNT, its_needs(&its, 0, list, 18, &count); sum += count);
+    made("its_step", its_step(&its, 0, &step));
     TIME("INV: its_write_memory, CWRITER, its_step", COUNT / 10, run(&its, (uint64_t)7 << 32 | 0xc, 2, 0));
     TIME("INVALL of 1,024 events, the same", 1000, run(&its, 0xd, 0, 0));
     TIME("its_save of 1,024 events", 100, its_save(&its, &unsaved));

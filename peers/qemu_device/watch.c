@@ -139,7 +139,7 @@ static void say_state(const char *when)
 
     for (size_t i = 0; i < ARRAY_SIZE(offsets); i++) {
         value = 0;
-        __real_its_read_register(machine, offsets[i], offsets[i] ? 8 : 4, &value);
+        __real_its_read_register(machine, 0, offsets[i], offsets[i] ? 8 : 4, &value);
         g_checksum_update(sum, (uint8_t *)&value, sizeof(value));
     }
     for (uint32_t vcpu = 0; vcpu < processors; vcpu++) {
@@ -200,6 +200,7 @@ static void __attribute__((constructor)) start_record(void)
 }
 
 uint32_t __wrap_its_new(struct its_handle *handle, const struct its_description_in *numbers,
+                        const struct its_translator_in *translators, size_t translators_len,
                         const struct its_window_in *windows, size_t windows_len,
                         const uint64_t *tables_, size_t tables_len,
                         const struct its_redistributor_in *redistributors,
@@ -207,9 +208,10 @@ uint32_t __wrap_its_new(struct its_handle *handle, const struct its_description_
                         size_t requesters_len, const struct its_fill_in *fills, size_t fills_len,
                         const uint8_t *bytes, size_t bytes_len, struct its_make_fault_out *fault)
 {
-    uint32_t answer = __real_its_new(handle, numbers, windows, windows_len, tables_, tables_len,
-                                     redistributors, redistributors_len, requesters,
-                                     requesters_len, fills, fills_len, bytes, bytes_len, fault);
+    uint32_t answer = __real_its_new(handle, numbers, translators, translators_len, windows,
+                                     windows_len, tables_, tables_len, redistributors,
+                                     redistributors_len, requesters, requesters_len, fills,
+                                     fills_len, bytes, bytes_len, fault);
 
     if (!record || answer != ITS_DONE) {
         return answer;
@@ -224,10 +226,10 @@ uint32_t __wrap_its_new(struct its_handle *handle, const struct its_description_
     if (numbers->restored) {
         struct its_save_fault_out none;
 
-        say("restore 0x%" PRIx64 " 0x%" PRIx64 " 0x%" PRIx64, numbers->ctlr, numbers->cbaser,
-            numbers->creadr);
-        say(" 0x%" PRIx64 " 0x%" PRIx64 " 0x%" PRIx64 "\n", numbers->cwriter, numbers->baser0,
-            numbers->baser1);
+        say("restore 0x%" PRIx64 " 0x%" PRIx64 " 0x%" PRIx64, translators->ctlr,
+            translators->cbaser, translators->creadr);
+        say(" 0x%" PRIx64 " 0x%" PRIx64 " 0x%" PRIx64 "\n", translators->cwriter,
+            translators->baser0, translators->baser1);
         for (size_t i = 0; i < redistributors_len; i++) {
             say("rrestore %zu 0x%" PRIx64 " 0x%" PRIx64 " 0x%" PRIx64 "\n", i,
                 redistributors[i].ctlr, redistributors[i].propbaser, redistributors[i].pendbaser);
@@ -255,20 +257,20 @@ uint32_t __wrap_its_free(struct its_handle *handle)
     return __real_its_free(handle);
 }
 
-uint32_t __wrap_its_read_register(struct its_handle *handle, uint32_t offset, uint32_t size,
-                                  uint64_t *out)
+uint32_t __wrap_its_read_register(struct its_handle *handle, uint32_t translator, uint32_t offset,
+                                  uint32_t size, uint64_t *out)
 {
-    uint32_t answer = __real_its_read_register(handle, offset, size, out);
+    uint32_t answer = __real_its_read_register(handle, translator, offset, size, out);
 
     say("read 0x%x %u -> value 0x%" PRIx64 "\n", offset, size, *out);
     return answer;
 }
 
-uint32_t __wrap_its_write_register(struct its_handle *handle, uint32_t offset, uint32_t size,
-                                   uint64_t value)
+uint32_t __wrap_its_write_register(struct its_handle *handle, uint32_t translator, uint32_t offset,
+                                   uint32_t size, uint64_t value)
 {
     say("write 0x%x %u 0x%" PRIx64 " -> ok\n", offset, size, value);
-    return __real_its_write_register(handle, offset, size, value);
+    return __real_its_write_register(handle, translator, offset, size, value);
 }
 
 uint32_t __wrap_its_read_lpi_register(struct its_handle *handle, uint32_t vcpu, uint32_t offset,
@@ -321,13 +323,13 @@ uint32_t __wrap_its_forget(struct its_handle *handle, uint64_t address, uint64_t
     return answer;
 }
 
-uint32_t __wrap_its_signal(struct its_handle *handle, uint32_t device, uint32_t event,
-                           struct its_signal_out *out)
+uint32_t __wrap_its_signal(struct its_handle *handle, uint32_t translator, uint32_t device,
+                           uint32_t event, struct its_signal_out *out)
 {
     uint32_t answer;
 
     end_record();
-    answer = __real_its_signal(handle, device, event, out);
+    answer = __real_its_signal(handle, translator, device, event, out);
 
     if (out->cause == ITS_CAUSE_DELIVERED) {
         say("signal %u %u -> delivered %u %u\n", device, event, out->vcpu, out->intid);
@@ -380,9 +382,9 @@ static const char *command_name(uint32_t op)
     return number;
 }
 
-uint32_t __wrap_its_step(struct its_handle *handle, struct its_step_out *out)
+uint32_t __wrap_its_step(struct its_handle *handle, uint32_t translator, struct its_step_out *out)
 {
-    uint32_t answer = __real_its_step(handle, out);
+    uint32_t answer = __real_its_step(handle, translator, out);
 
     if (answer != ITS_DONE) {
         return answer;

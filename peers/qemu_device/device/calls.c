@@ -51,7 +51,7 @@ uint64_t bacciledru_register(BacciledruIts *s, uint32_t offset, uint32_t size)
     uint64_t value = 0;
 
     bacciledru_done(s, "its_read_register",
-                    its_read_register(s->handle, offset, size, &value));
+                    its_read_register(s->handle, 0, offset, size, &value));
     return value;
 }
 

@@ -38,7 +38,7 @@ static MemTxResult control_write(void *opaque, hwaddr offset, uint64_t value, un
 
     trace_bacciledru_write(offset, value, size);
     bacciledru_done(s, "its_write_register",
-                    its_write_register(s->handle, offset, size, value));
+                    its_write_register(s->handle, 0, offset, size, value));
     if (offset == GITS_CTLR || (offset & ~7ULL) == GITS_CWRITER) {
         bacciledru_take_commands(s);
     }

@@ -25,7 +25,7 @@ static uint64_t events_of(BacciledruIts *s, uint32_t device)
     do {
         count = 0;
         bacciledru_done(s, "its_list_events",
-                        its_list_events(s->handle, device, from, piece, PIECE, &count));
+                        its_list_events(s->handle, 0, device, from, piece, PIECE, &count));
         all += count;
         from = count > 0 ? piece[count - 1].event + 1 : 0;
     } while (count == PIECE);
@@ -61,7 +61,7 @@ static void tell_devices(BacciledruIts *s, Mapped *mapped, GString *lines)
     do {
         count = 0;
         bacciledru_done(s, "its_list_devices",
-                        its_list_devices(s->handle, from, piece, PIECE, &count));
+                        its_list_devices(s->handle, 0, from, piece, PIECE, &count));
         for (uint64_t i = 0; i < count; i++) {
             tell_device(s, &piece[i], mapped, lines);
         }
@@ -79,7 +79,7 @@ static void tell_collections(BacciledruIts *s, Mapped *mapped, GString *lines)
     do {
         count = 0;
         bacciledru_done(s, "its_list_collections",
-                        its_list_collections(s->handle, from, piece, PIECE, &count));
+                        its_list_collections(s->handle, 0, from, piece, PIECE, &count));
         for (uint64_t i = 0; i < count; i++) {
             if (mapped->collections++ < TOLD) {
                 g_string_append_printf(lines, "    collection %u: processor %u\n",

@@ -46,14 +46,21 @@ static void add_pages(BacciledruIts *s, enum its_region kind, uint64_t address, 
 
 static struct its_description_in description(BacciledruIts *s, Source source)
 {
-    GICv3ITSState *its = &s->parent_obj;
-
     return (struct its_description_in) {
         .vcpus = s->gic->num_cpu, .device_bits = 16, .lpi_bits = 16, .profile = 1,
         .programmed = 1, .restored = source != FROM_NOTHING, .linux_guest = 1,
+        .event_limit = EVENTS, .device_limit = UINT64_MAX, .memory_limit = UINT64_MAX,
+    };
+}
+
+/* The registers that QEMU keeps, which count where a state is restored. */
+static struct its_translator_in translator(BacciledruIts *s)
+{
+    GICv3ITSState *its = &s->parent_obj;
+
+    return (struct its_translator_in) {
         .ctlr = its->ctlr, .cbaser = its->cbaser, .creadr = its->creadr,
         .cwriter = its->cwriter, .baser0 = its->baser[0], .baser1 = its->baser[1],
-        .event_limit = EVENTS, .device_limit = UINT64_MAX, .memory_limit = UINT64_MAX,
     };
 }
 
@@ -75,6 +82,7 @@ static bool replace(BacciledruIts *s, Fills *fills, Error **errp)
     g_autofree struct its_redistributor_in *registers =
         g_new0(struct its_redistributor_in, s->gic->num_cpu);
     struct its_description_in numbers = description(s, fills->source);
+    struct its_translator_in its = translator(s);
     struct its_handle none = ITS_NO_MACHINE, *handle = g_memdup2(&none, sizeof(none));
     struct its_make_fault_out fault;
     uint32_t answer;
@@ -84,7 +92,7 @@ static bool replace(BacciledruIts *s, Fills *fills, Error **errp)
         registers[i].propbaser = s->gic->cpu[i].gicr_propbaser;
         registers[i].pendbaser = s->gic->cpu[i].gicr_pendbaser;
     }
-    answer = its_new(handle, &numbers, s->windows, s->windows_len, NULL, 0, registers,
+    answer = its_new(handle, &numbers, &its, 1, s->windows, s->windows_len, NULL, 0, registers,
                      s->gic->num_cpu, NULL, 0, (struct its_fill_in *)fills->list->data,
                      fills->list->len, fills->bytes->data, fills->bytes->len, &fault);
     if (answer != ITS_DONE) {

@@ -59,13 +59,13 @@ static Taken take(BacciledruIts *s, const uint8_t *command, uint64_t *concerned)
     uint64_t count = 0, place = bacciledru_register(s, GITS_CREADR, 8);
     uint32_t answer;
 
-    bacciledru_done(s, "its_needs", its_needs(s->handle, needs, MOST + 1, &count));
+    bacciledru_done(s, "its_needs", its_needs(s->handle, 0, needs, MOST + 1, &count));
     for (uint64_t i = 1; i < count; i++) {
         if (!bacciledru_copy_in(s, needs[i].address, needs[i].length)) {
             return NO_MEMORY;
         }
     }
-    answer = its_step(s->handle, &out);
+    answer = its_step(s->handle, 0, &out);
     if (answer == ITS_FULL) {      /* the guest waits for this command without an end */
         return NONE_LEFT;
     }
@@ -88,7 +88,7 @@ static Taken step(BacciledruIts *s, bool brief, uint64_t *concerned)
     uint64_t count = 0;
     uint32_t answer;
 
-    bacciledru_done(s, "its_needs", its_needs(s->handle, &place, 1, &count));
+    bacciledru_done(s, "its_needs", its_needs(s->handle, 0, &place, 1, &count));
     if (count == 0) {
         return NONE_LEFT;
     }
@@ -146,7 +146,7 @@ void bacciledru_take_waited(BacciledruIts *s)
     struct its_stretch_out place;
     uint64_t count = 0;
 
-    bacciledru_done(s, "its_needs", its_needs(s->handle, &place, 1, &count));
+    bacciledru_done(s, "its_needs", its_needs(s->handle, 0, &place, 1, &count));
     if (count > 0) {
         take_later(s);
     }
@@ -173,7 +173,7 @@ int bacciledru_send_msi(GICv3ITSState *its, uint32_t event, uint16_t device)
     struct its_signal_out out;
     g_autofree char *cause = NULL;
 
-    if (!bacciledru_done(s, "its_signal", its_signal(s->handle, device, event, &out))) {
+    if (!bacciledru_done(s, "its_signal", its_signal(s->handle, 0, device, event, &out))) {
         return -EIO;
     }
     trace_bacciledru_signal(device, event, out.cause, out.vcpu, out.intid);

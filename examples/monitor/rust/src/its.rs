@@ -3,7 +3,7 @@
 use crate::raw;
 pub use crate::raw::{
     Ack, Description, Dma, Event, Fill, MakeFault, Redistributor, Requesters, SaveFault, Signal, Step,
-    Stretch, Window,
+    Stretch, Translator, Window,
 };
 use std::ptr::null_mut;
 
@@ -48,6 +48,8 @@ pub enum Tables<'a> {
 /// All that a machine is made from.
 pub struct Made<'a> {
     pub numbers: &'a Description,
+    /// One or two. A call that asks one has its number first, 0 or 1.
+    pub translators: &'a [Translator],
     pub windows: &'a [Window],
     pub tables: Tables<'a>,
     pub requesters: &'a [Requesters],
@@ -74,6 +76,8 @@ impl Its {
             raw::its_new(
                 &mut its.handle,
                 from.numbers,
+                from.translators.as_ptr(),
+                from.translators.len(),
                 from.windows.as_ptr(),
                 from.windows.len(),
                 pending.as_ptr(),
@@ -118,12 +122,13 @@ impl Its {
         }
     }
 
-    pub fn load(&mut self, offset: u32, size: u32) -> Result<u64, Error<()>> {
-        self.told(|its, out| unsafe { raw::its_read_register(its, offset, size, out) })
+    pub fn load(&mut self, translator: u32, offset: u32, size: u32) -> Result<u64, Error<()>> {
+        self.told(|its, out| unsafe { raw::its_read_register(its, translator, offset, size, out) })
     }
 
-    pub fn store(&mut self, offset: u32, size: u32, value: u64) -> Result<(), Error<()>> {
-        done(unsafe { raw::its_write_register(&mut self.handle, offset, size, value) }, ())
+    pub fn store(&mut self, translator: u32, offset: u32, size: u32, value: u64) -> Result<(), Error<()>> {
+        let its = &mut self.handle;
+        done(unsafe { raw::its_write_register(its, translator, offset, size, value) }, ())
     }
 
     pub fn load_lpi(&mut self, vcpu: u32, offset: u32, size: u32) -> Result<u64, Error<()>> {
@@ -166,8 +171,8 @@ impl Its {
         }
     }
 
-    pub fn signal(&mut self, device: u32, event: u32) -> Result<Signal, Error<()>> {
-        self.told(|its, out| unsafe { raw::its_signal(its, device, event, out) })
+    pub fn signal(&mut self, translator: u32, device: u32, event: u32) -> Result<Signal, Error<()>> {
+        self.told(|its, out| unsafe { raw::its_signal(its, translator, device, event, out) })
     }
 
     pub fn dma(&mut self, requester: u32, address: u64, bytes: &[u8]) -> Result<Dma, Error<()>> {
@@ -175,8 +180,8 @@ impl Its {
         self.told(|its, out| unsafe { raw::its_dma(its, requester, address, at, len, out) })
     }
 
-    pub fn event(&mut self, device: u32, event: u32) -> Result<Event, Error<()>> {
-        self.told(|its, out| unsafe { raw::its_event(its, device, event, out) })
+    pub fn event(&mut self, translator: u32, device: u32, event: u32) -> Result<Event, Error<()>> {
+        self.told(|its, out| unsafe { raw::its_event(its, translator, device, event, out) })
     }
 
     pub fn take(&mut self, vcpu: u32) -> Result<Ack, Error<()>> {
@@ -199,12 +204,12 @@ impl Its {
         self.listed(|its, list, len, count| unsafe { raw::its_pending(its, vcpu, list, len, count) })
     }
 
-    pub fn needs(&mut self) -> Result<Vec<Stretch>, Error<()>> {
-        self.listed(|its, list, len, count| unsafe { raw::its_needs(its, list, len, count) })
+    pub fn needs(&mut self, translator: u32) -> Result<Vec<Stretch>, Error<()>> {
+        self.listed(|its, list, len, count| unsafe { raw::its_needs(its, translator, list, len, count) })
     }
 
-    pub fn step(&mut self) -> Result<Step, Error<()>> {
-        self.told(|its, out| unsafe { raw::its_step(its, out) })
+    pub fn step(&mut self, translator: u32) -> Result<Step, Error<()>> {
+        self.told(|its, out| unsafe { raw::its_step(its, translator, out) })
     }
 
     pub fn limit(&mut self, events: u64) -> Result<(), Error<()>> {

@@ -3,8 +3,10 @@
 mod its;
 mod raw;
 
-use its::{text, Description, Error, Fill, Its, Made, Redistributor, Requesters, Stretch, Tables, Window};
-use std::thread;
+use its::{
+    text, Description, Error, Fill, Its, Made, Redistributor, Requesters, Stretch, Tables, Translator, Window,
+};
+use std::{slice, thread};
 
 const RAM: u64 = 0x8000_0000;
 const SIZE: usize = 0x20_0000;
@@ -32,8 +34,6 @@ fn numbers() -> Description {
         lpi_bits: 16,
         profile: 1,
         config: CONFIG,
-        has_frames: 1,
-        frames: FRAMES,
         event_limit: u64::MAX,
         device_limit: u64::MAX,
         memory_limit: u64::MAX,
@@ -41,9 +41,18 @@ fn numbers() -> Description {
     }
 }
 
-fn made<'a>(numbers: &'a Description, fills: &'a [Fill], bytes: &'a [u8]) -> Made<'a> {
-    let tables = Tables::Described(&TABLES);
-    Made { numbers, windows: &WINDOWS, tables, requesters: &REQUESTERS, fills, bytes }
+fn translator() -> Translator {
+    Translator { has_frames: 1, frames: FRAMES, ..Translator::default() }
+}
+
+fn made<'a>(
+    numbers: &'a Description,
+    translator: &'a Translator,
+    fills: &'a [Fill],
+    bytes: &'a [u8],
+) -> Made<'a> {
+    let (translators, tables) = (slice::from_ref(translator), Tables::Described(&TABLES));
+    Made { numbers, translators, windows: &WINDOWS, tables, requesters: &REQUESTERS, fills, bytes }
 }
 
 /// Guest memory, of which the library has a copy.
@@ -76,19 +85,19 @@ impl Ram {
 }
 
 fn drive(its: &mut Its, ram: &mut Ram) -> Result<(), Error<()>> {
-    its.store(0x100, 8, 0x8107_0000_0000_0200 | RAM)?;
-    its.store(0x108, 8, 0x8407_0000_0000_0200 | (RAM + 0x1_0000))?;
-    its.store(0x80, 8, 0x8000_0000_0000_0000 | QUEUE)?;
-    its.store(0x0, 4, 1)?;
+    its.store(0, 0x100, 8, 0x8107_0000_0000_0200 | RAM)?;
+    its.store(0, 0x108, 8, 0x8407_0000_0000_0200 | (RAM + 0x1_0000))?;
+    its.store(0, 0x80, 8, 0x8000_0000_0000_0000 | QUEUE)?;
+    its.store(0, 0x0, 4, 1)?;
     let bytes: Vec<u8> = COMMANDS.iter().flatten().flat_map(|word| word.to_le_bytes()).collect();
     ram.0[0x2_0000..0x2_0000 + bytes.len()].copy_from_slice(&bytes);
-    its.store(0x88, 8, bytes.len() as u64)?;
+    its.store(0, 0x88, 8, bytes.len() as u64)?;
     its.limit(0)?;
-    while let Some(command) = its.needs()?.first().copied() {
+    while let Some(command) = its.needs(0)?.first().copied() {
         ram.copy_in(its, &[command])?;
-        let needs = its.needs()?;
+        let needs = its.needs(0)?;
         ram.copy_in(its, &needs[1..])?;
-        match its.step() {
+        match its.step(0) {
             Ok(step) => println!("{} {step:?}", needs.len()),
             Err(Error::Full) => its.limit(1)?,
             Err(error) => return Err(error),
@@ -99,7 +108,7 @@ fn drive(its: &mut Its, ram: &mut Ram) -> Result<(), Error<()>> {
 
 /// What a save and the registers have of a machine.
 struct Saved {
-    numbers: Description,
+    translator: Translator,
     fills: Vec<Fill>,
     bytes: Vec<u8>,
 }
@@ -111,17 +120,16 @@ fn saved(its: &mut Its, ram: &mut Ram) -> Result<Saved, Error<()>> {
         fills.push(Fill { address: page.address, length: page.length });
         bytes.extend_from_slice(ram.part(page).expect("pages of the guest's memory"));
     }
-    let numbers = Description {
-        restored: 1,
-        ctlr: its.load(0x0, 4)?,
-        cbaser: its.load(0x80, 8)?,
-        cwriter: its.load(0x88, 8)?,
-        creadr: its.load(0x90, 8)?,
-        baser0: its.load(0x100, 8)?,
-        baser1: its.load(0x108, 8)?,
-        ..numbers()
+    let translator = Translator {
+        ctlr: its.load(0, 0x0, 4)?,
+        cbaser: its.load(0, 0x80, 8)?,
+        cwriter: its.load(0, 0x88, 8)?,
+        creadr: its.load(0, 0x90, 8)?,
+        baser0: its.load(0, 0x100, 8)?,
+        baser1: its.load(0, 0x108, 8)?,
+        ..translator()
     };
-    Ok(Saved { numbers, fills, bytes })
+    Ok(Saved { translator, fills, bytes })
 }
 
 /// A machine whose guest programs the LPI registers.
@@ -129,7 +137,8 @@ fn programmed() -> Result<(u64, Redistributor), Error<()>> {
     let numbers = Description { programmed: 1, ..numbers() };
     let registers = [Redistributor::default(); 2];
     let tables = Tables::Programmed(&registers);
-    let from = Made { tables, ..made(&numbers, &[], &[]) };
+    let translator = translator();
+    let from = Made { tables, ..made(&numbers, &translator, &[], &[]) };
     let mut its = Its::new(&from).expect("a machine");
     its.store_lpi(0, 0x70, 8, CONFIG | 15)?;
     its.store_lpi(0, 0x78, 8, 0x4000_0000_0000_0000 | TABLES[0])?;
@@ -141,10 +150,10 @@ fn main() {
     let mut ram = Ram(vec![0; SIZE]);
     ram.0[0x3_0000] = 0xa1;
     let enabled = [Fill { address: CONFIG, length: 1 }];
-    let mut its = Its::new(&made(&numbers(), &enabled, &[0xa1])).expect("a machine");
+    let mut its = Its::new(&made(&numbers(), &translator(), &enabled, &[0xa1])).expect("a machine");
     drive(&mut its, &mut ram).expect("three commands");
-    println!("{:?}", its.event(7, 2));
-    println!("{:?}", its.signal(7, 2));
+    println!("{:?}", its.event(0, 7, 2));
+    println!("{:?}", its.signal(0, 7, 2));
     println!("{:?} {:?}", its.take(1), its.take(1));
     println!("{:?}", its.dma(0x10, FRAMES + 0x1_0040, &[2, 0, 0, 0]));
     println!("{:?} {:?} {:?}", its.show(1), its.best(1, 0xa0), its.claim(1, 8193));
@@ -152,11 +161,12 @@ fn main() {
     its.save().expect("a state that can be saved");
     let saved = saved(&mut its, &mut ram).expect("memory and registers");
     println!("{} pages", saved.fills.len());
-    let whole = made(&saved.numbers, &saved.fills, &saved.bytes);
+    let restored = Description { restored: 1, ..numbers() };
+    let whole = made(&restored, &saved.translator, &saved.fills, &saved.bytes);
     let mut next = Its::new(&whole).expect("the saved machine");
     drop(its);
     let taken = thread::spawn(move || {
-        let taken = (next.take(1), next.signal(7, 2), next.take(2));
+        let taken = (next.take(1), next.signal(0, 7, 2), next.take(2));
         next.migrate().expect("a state that can be saved");
         next.forget(RAM, SIZE as u64).expect("memory");
         (taken, next.pages().expect("none").len())
@@ -164,7 +174,7 @@ fn main() {
     println!("{:?}", taken.join().expect("a thread that ends"));
     println!("{:?}", programmed());
     let wrong = Description { config: 0, ..numbers() };
-    match Its::new(&made(&wrong, &[], &[])) {
+    match Its::new(&made(&wrong, &translator(), &[], &[])) {
         Err(Error::Fault(fault)) => println!("{:?}", text(2, fault.kind)),
         _ => println!("a machine, and none is expected"),
     }

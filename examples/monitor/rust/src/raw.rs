@@ -17,8 +17,16 @@ pub struct Description {
     pub programmed: u32,
     pub restored: u32,
     pub linux_guest: u32,
-    pub has_frames: u32,
     pub config: u64,
+    pub event_limit: u64,
+    pub device_limit: u64,
+    pub memory_limit: u64,
+}
+
+#[repr(C)]
+#[derive(Clone, Copy, Default)]
+pub struct Translator {
+    pub has_frames: u32,
     pub frames: u64,
     pub ctlr: u64,
     pub cbaser: u64,
@@ -26,9 +34,6 @@ pub struct Description {
     pub cwriter: u64,
     pub baser0: u64,
     pub baser1: u64,
-    pub event_limit: u64,
-    pub device_limit: u64,
-    pub memory_limit: u64,
 }
 
 #[repr(C)]
@@ -65,6 +70,7 @@ pub struct Redistributor {
 #[derive(Clone, Copy, Debug, Default, PartialEq, Eq)]
 pub struct MakeFault {
     pub kind: u32,
+    pub translator: u32,
     pub vcpu: u32,
     pub device: u32,
     pub event: u32,
@@ -82,11 +88,13 @@ pub struct MakeFault {
 #[derive(Clone, Copy, Debug, Default, PartialEq, Eq)]
 pub struct SaveFault {
     pub kind: u32,
+    pub translator: u32,
     pub device: u32,
     pub region: u32,
     pub number: u32,
     pub other_region: u32,
     pub other_number: u32,
+    pub other_translator: u32,
 }
 
 #[repr(C)]
@@ -142,6 +150,8 @@ extern "C" {
     pub fn its_new(
         handle: *mut Handle,
         numbers: *const Description,
+        translators: *const Translator,
+        translators_len: usize,
         windows: *const Window,
         windows_len: usize,
         pending: *const u64,
@@ -157,8 +167,20 @@ extern "C" {
         fault: *mut MakeFault,
     ) -> u32;
     pub fn its_free(handle: *mut Handle) -> u32;
-    pub fn its_read_register(handle: *mut Handle, offset: u32, size: u32, out: *mut u64) -> u32;
-    pub fn its_write_register(handle: *mut Handle, offset: u32, size: u32, value: u64) -> u32;
+    pub fn its_read_register(
+        handle: *mut Handle,
+        translator: u32,
+        offset: u32,
+        size: u32,
+        out: *mut u64,
+    ) -> u32;
+    pub fn its_write_register(
+        handle: *mut Handle,
+        translator: u32,
+        offset: u32,
+        size: u32,
+        value: u64,
+    ) -> u32;
     pub fn its_read_lpi_register(
         handle: *mut Handle,
         vcpu: u32,
@@ -183,7 +205,13 @@ extern "C" {
         -> u32;
     pub fn its_forget(handle: *mut Handle, address: u64, length: u64) -> u32;
     pub fn its_next_page(handle: *mut Handle, from: u64, out: *mut Stretch) -> u32;
-    pub fn its_signal(handle: *mut Handle, device: u32, event: u32, out: *mut Signal) -> u32;
+    pub fn its_signal(
+        handle: *mut Handle,
+        translator: u32,
+        device: u32,
+        event: u32,
+        out: *mut Signal,
+    ) -> u32;
     pub fn its_dma(
         handle: *mut Handle,
         requester: u32,
@@ -192,7 +220,13 @@ extern "C" {
         len: usize,
         out: *mut Dma,
     ) -> u32;
-    pub fn its_event(handle: *mut Handle, device: u32, event: u32, out: *mut Event) -> u32;
+    pub fn its_event(
+        handle: *mut Handle,
+        translator: u32,
+        device: u32,
+        event: u32,
+        out: *mut Event,
+    ) -> u32;
     pub fn its_take(handle: *mut Handle, vcpu: u32, out: *mut Ack) -> u32;
     pub fn its_show(handle: *mut Handle, vcpu: u32, out: *mut Ack) -> u32;
     pub fn its_best(handle: *mut Handle, vcpu: u32, mask: u32, out: *mut Ack) -> u32;
@@ -206,11 +240,12 @@ extern "C" {
     ) -> u32;
     pub fn its_needs(
         handle: *mut Handle,
+        translator: u32,
         list: *mut Stretch,
         len: usize,
         count: *mut u64,
     ) -> u32;
-    pub fn its_step(handle: *mut Handle, out: *mut Step) -> u32;
+    pub fn its_step(handle: *mut Handle, translator: u32, out: *mut Step) -> u32;
     pub fn its_limit(handle: *mut Handle, events: u64) -> u32;
     pub fn its_save(handle: *mut Handle, fault: *mut SaveFault) -> u32;
     pub fn its_written(
