@@ -1,5 +1,5 @@
 -- The limits of a shared machine leave room in a word for the stamps of its translators and a place.
-use Rattle.std.proofs.Common.{◌≡◌, ℕ, ◌<◌, ◌^◌, ◌-◌, ◌==◌, sym, subst, arith}
+use Rattle.std.proofs.Common.{◌≡◌, ℕ, ◌<◌, ◌≤◌, ◌^◌, ◌-◌, ◌==◌, sym, subst, arith}
 use Rattle.std.proofs.lemmas.Bool.{cond_both, eqb-true}
 use Rattle.its_turns.specs.Words.{IsLong}
 use Rattle.its_types.specs.declared.machine.Limits.{Limits}
