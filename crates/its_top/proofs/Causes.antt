@@ -10,7 +10,7 @@ use Rattle.its_answers.specs.Legs.{AllEnd}
 use Rattle.its_words.specs.Help.{help_text, version_text}
 use Rattle.its_words.specs.Words.{asked_of}
 use Rattle.its_words.specs.declared.words.Asked.{Asked}
-use Rattle.its_words.specs.declared.words.Asked.TheVariants.{Run, Check, Gen, Fit, At, Explain, Draw, Help, Version}
+use Rattle.its_words.specs.declared.words.Asked.TheVariants.{Run, Check, Gen, Fit, Lanes, At, Explain, Draw, Help, Version}
 use Rattle.its_answers.specs.Checked.{CheckCauses}
 use Rattle.its_top.specs.Its.{Causes, WordsCauses, AskedCauses, IsDecided, IsRunDecided, IsCheckDecided, AskedDecides, ReadDecides, TextCauses}
 use Rattle.its_answers.specs.Its.{RunCauses, IsScript, OfScript, IsReport, IsMigrationRefusal, IsSpentReport, ExplainCauses}
@@ -22,10 +22,11 @@ use Rattle.its_top.proofs.Checks.{check_decided}
 use Rattle.its_answers.proofs.Explained.{as_run, as_check}
 use Rattle.its_draw.specs.Draws.{DrawCauses}
 use Rattle.fit_answers.specs.FitSays.{FitCauses}
+use Rattle.fit_lanes.specs.LanesSays.{LanesCauses}
 use Rattle.its_draw.proofs.Said.{drawn_checks}
 use Rattle.report_places.specs.Says.{PlaceCauses}
 use Rattle.report_places.proofs.Said.{place_checks}
-use Rattle.its_top.proofs.Fits.{fit_decided}
+use Rattle.its_top.proofs.Fits.{fit_decided, lanes_decided}
 use Rattle.its_answers.proofs.Once.{same_ok, not_both, first_once, made_once, too_short}
 use Rattle.its_top.proofs.Endings.{ends_well, ends_spent, ends_refused, all_end_well}
 
@@ -240,6 +241,8 @@ decided words told rose s text calm h = go (asked_of words) h
     go (Some Check) h = λ input tells. check_decided input rose s text calm (subst (λ (o : Option (List ℕ)). CheckCauses o rose s text) tells h)
     go (Some (Gen signals threads)) h = gen_end signals threads s text h
     go (Some (Fit calls)) h = λ input tells. fit_decided calls input rose s text calm (subst (λ (o : Option (List ℕ)). FitCauses calls o rose s text) tells h)
+    go (Some (Lanes calls)) h = λ input tells. lanes_decided calls input rose s text calm
+        (subst (λ (o : Option (List ℕ)). LanesCauses calls o rose s text) tells h)
     go (Some (At place leg)) h = λ input tells. place_decided (leg - 1) (place + 1) input rose s text calm
         (subst (λ (o : Option (List ℕ)). PlaceCauses (leg - 1) (place + 1) o rose s text) tells h)
     go (Some Explain) h = λ input tells. explain_decided input rose s text calm
@@ -282,6 +285,7 @@ no_write_fault words told rose s text h e = go (asked_of words) (subst (λ (t : 
     go (Some Check) h = h
     go (Some (Gen signals threads)) h = h
     go (Some (Fit calls)) h = h.1.1.says
+    go (Some (Lanes calls)) h = h.1.1.says
     go (Some (At place leg)) h = h
     go (Some Explain) h = h
     go (Some Draw) h = h

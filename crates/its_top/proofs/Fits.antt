@@ -1,4 +1,4 @@
--- What a status of `fit` says, by what was read.
+-- What a status of `fit` or `lanes` says, by what was read.
 use Rattle.std.proofs.Common.{◌≡◌, ◌⊎◌, ℕ, ◌<◌, ◌≤◌, List, length, Some, refl, sym, subst, inl, inr, arith}
 use Rattle.its_answers.proofs.Once.{too_short}
 use Rattle.its_answers.specs.Streams.{WasRead}
@@ -6,6 +6,8 @@ use Rattle.its_answers.specs.declared.status.Status.{Status}
 use Rattle.its_answers.specs.declared.status.Status.TheVariants as status
 use Rattle.fit_answers.proofs.Saying.{answered, bad_ends, fault_ends, machine_ends}
 use Rattle.fit_answers.specs.FitSays.{FitCauses, FitSays, IsVerdict}
+use Rattle.fit_lanes.specs.LanesSays.{LanesCauses}
+use Rattle.fit_lanes.proofs.Showing.{causes_fit}
 use Rattle.its_top.specs.Its.{IsFitDecided}
 
 abbrev Ended : Status → Status → Type 0
@@ -65,3 +67,8 @@ fit_decided bound input rose s text calm h = record {
   answered = λ le script calls told is. said_so bound input rose s text IsVerdict calm h le
       (λ said. answered input bound s text (said_of bound input said.0 text s said.1.0 said.1.1) script calls told is);
 }
+
+pub lanes_decided : (bound : ℕ) (input : List ℕ) (rose : Type 0) (s : Status) (text : List ℕ) → ¬ rose → LanesCauses bound (Some input) rose s text
+    → IsFitDecided input s
+lanes_decided bound input rose s text calm h =
+    let c = causes_fit (Some input) rose bound s text h in fit_decided bound input rose s c.0 calm c.1

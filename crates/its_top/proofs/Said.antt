@@ -21,6 +21,8 @@ use Rattle.report_places.specs.Says.{PlaceCauses, PlaceSays}
 use Rattle.report_places.proofs.Said.{place_causes}
 use Rattle.fit_answers.specs.FitSays.{FitCauses, FitSays}
 use Rattle.fit_answers.proofs.Saying.{fit_causes}
+use Rattle.fit_lanes.specs.LanesSays.{LanesCauses, LanesSays}
+use Rattle.fit_lanes.proofs.Showing.{lanes_causes}
 use Rattle.its_answers.proofs.Told as told_leg
 
 -- ---- of a source
@@ -40,6 +42,10 @@ explain_said told rose input s text was h = explained.explained_causes told rose
 pub fit_said : (told : Option (List ℕ)) (rose : Type 0) (bound : ℕ) (input : List ℕ) (s : Status) (text : List ℕ) → WasRead told input
     → FitSays input bound s text → FitCauses bound told rose s text
 fit_said told rose bound input s text was h = fit_causes told rose bound input s text was h
+
+pub lanes_said : (told : Option (List ℕ)) (rose : Type 0) (bound : ℕ) (input : List ℕ) (s : Status) (text : List ℕ) → WasRead told input
+    → LanesSays input bound s text → LanesCauses bound told rose s text
+lanes_said told rose bound input s text was h = lanes_causes told rose bound input s text was h
 
 pub place_said : (leg place : ℕ) (told : Option (List ℕ)) (rose : Type 0) (input : List ℕ) (s : Status) (text : List ℕ) → WasRead told input
     → PlaceSays input leg place s text → PlaceCauses leg place told rose s text

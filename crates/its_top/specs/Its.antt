@@ -13,7 +13,7 @@ use Rattle.its_top.specs.Streams.{IsAtEnd}
 use Rattle.its_history.specs.declared.trace.Leg.{Leg as LegLines}
 use Rattle.its_words.specs.Words.{asked_of}
 use Rattle.its_words.specs.declared.words.Asked.{Asked}
-use Rattle.its_words.specs.declared.words.Asked.TheVariants.{Run, Check, Gen, Fit, At, Explain, Draw, Help, Version}
+use Rattle.its_words.specs.declared.words.Asked.TheVariants.{Run, Check, Gen, Fit, Lanes, At, Explain, Draw, Help, Version}
 use Rattle.its_words.specs.Help.{help_text, version_text}
 use Rattle.its_answers.specs.Legs.{HasPlaces, CanMigrate, AllEnd, all_told}
 use Rattle.trace_check.specs.Verdicts.{copies_of, IsReportOfRun}
@@ -23,6 +23,7 @@ use Rattle.its_fit.specs.declared.told.Told.{Told}
 use Rattle.its_draw.specs.Draws.{DrawCauses}
 use Rattle.report_places.specs.Says.{PlaceCauses}
 use Rattle.fit_answers.specs.FitSays.{FitCauses, IsBadTold, IsFitInput, IsVerdict}
+use Rattle.fit_lanes.specs.LanesSays.{LanesCauses}
 use Rattle.its_top.specs.Summarized.{GenCauses}
 use Rattle.its_answers.specs.declared.status.Status.{Status}
 use Rattle.its_answers.specs.declared.status.Status.TheVariants as status
@@ -55,6 +56,7 @@ AskedCauses (Some Run) told rose s text = RunCauses told rose s text
 AskedCauses (Some Check) told rose s text = CheckCauses told rose s text
 AskedCauses (Some (Gen signals threads)) told rose s text = GenCauses signals threads s text
 AskedCauses (Some (Fit calls)) told rose s text = FitCauses calls told rose s text
+AskedCauses (Some (Lanes calls)) told rose s text = LanesCauses calls told rose s text
 AskedCauses (Some (At place leg)) told rose s text = AtCauses place leg told rose s text
 AskedCauses (Some Explain) told rose s text = ExplainCauses told rose s text
 AskedCauses (Some Draw) told rose s text = DrawCauses told rose s text
@@ -71,12 +73,13 @@ abbrev pub AskedReads : Option Asked → Option (List ℕ) → Option (List ℕ)
 AskedReads (Some Run) before now = IsAtEnd before now
 AskedReads (Some Check) before now = IsAtEnd before now
 AskedReads (Some (Fit calls)) before now = IsAtEnd before now
+AskedReads (Some (Lanes calls)) before now = IsAtEnd before now
 AskedReads (Some (At place leg)) before now = IsAtEnd before now
 AskedReads (Some Explain) before now = IsAtEnd before now
 AskedReads (Some Draw) before now = IsAtEnd before now
 AskedReads _ before now = now ≡ before
 
--- `run`, `check`, `fit`, `at`, `explain` and `draw` read the source to its end, the others read nothing
+-- `run`, `check`, `fit`, `lanes`, `at`, `explain` and `draw` read the source to its end, the others read nothing
 abbrev pub Reads : List (List ℕ) → Option (List ℕ) → Option (List ℕ) → Type 0
 Reads words before now = AskedReads (asked_of words) before now
 
@@ -115,7 +118,7 @@ pub record IsCheckDecided (input : List ℕ) (s : Status) : Type 0 where
       → IsCheckInput input script first report → IsRun first script.legs histories → report ≡ report_text (all_told script first histories)
       → Ends s status.Ok
 
--- and that of `fit`: what is well formed has a verdict, or memory ran out, and nothing else has one
+-- and that of `fit`, which is also that of `lanes`: what is well formed has a verdict, or memory ran out, and nothing else has one
 pub record IsFitDecided (input : List ℕ) (s : Status) : Type 0 where
   pub too_long : 16777216 < length input → Ends s status.TooLong
   pub script_refused : length input ≤ 16777216 → (fault : ScriptFault) → check_of input ≡ Err fault → Ends s status.ScriptRefused
@@ -137,6 +140,7 @@ AskedDecides (Some Run) told s = (input : List ℕ) → told ≡ Some input → 
 AskedDecides (Some Check) told s = (input : List ℕ) → told ≡ Some input → IsCheckDecided input s
 AskedDecides (Some (Gen signals threads)) told s = Ends s status.Ok
 AskedDecides (Some (Fit calls)) told s = (input : List ℕ) → told ≡ Some input → IsFitDecided input s
+AskedDecides (Some (Lanes calls)) told s = (input : List ℕ) → told ≡ Some input → IsFitDecided input s
 AskedDecides (Some (At place leg)) told s = (input : List ℕ) → told ≡ Some input → IsCheckDecided input s
 AskedDecides (Some Explain) told s = (input : List ℕ) → told ≡ Some input → ReadDecides (check_of input) input s
 AskedDecides (Some Draw) told s = (input : List ℕ) → told ≡ Some input → IsCheckDecided input s

@@ -6,6 +6,7 @@ ghost use Rattle.its_io.specs.Count.{Rose};
 ghost use Rattle.its_answers.specs.Checked.{CheckCauses};
 ghost use Rattle.its_draw.specs.Draws.{DrawCauses};
 ghost use Rattle.fit_answers.specs.FitSays.{FitCauses};
+ghost use Rattle.fit_lanes.specs.LanesSays.{LanesCauses};
 ghost use Rattle.its_top.specs.Its.{AtCauses, Causes, Reads, IsDecided};
 ghost use Rattle.its_answers.specs.Its.{RunCauses, ExplainCauses};
 ghost use Rattle.its_top.specs.Streams.{IsAtEnd};
@@ -19,6 +20,7 @@ use crate::say::say;
 use crate::streams::{ReadAllError, read_all, write_both};
 use crate::summarize::summarize;
 use fit_answers::say_fit;
+use fit_lanes::say_lanes;
 use its_answers::{Ending, Status, refusal, say_check};
 use its_draw::say_draw;
 use its_io::{Failed, Sink, Source};
@@ -69,8 +71,8 @@ pub fn its<R: Threads + Wait + Sync, S: Source, K: Sink, G: Gate + Sync>(
         (Rose (S.faults source.old) (S.faults source.new)) status text
         × Appends (K.held sink.old) (K.held sink.new) (take n text)) }
 
-    // Where it ends well, `run`, `check`, `fit`, `at`, `explain` and `draw` have read the source to
-    // its end.
+    // Where it ends well, `run`, `check`, `fit`, `lanes`, `at`, `explain` and `draw` have read the
+    // source to its end.
     ensures to_the_end { result ≡ Status.Ok →
         Reads (map (λ w. string_bytes w) words.now) (S.left source.old) (S.left source.new) }
 
@@ -110,6 +112,7 @@ fn answer_words<R: Threads + Wait + Sync, S: Source, G: Gate + Sync>(
         Ok(Asked::Check) => check_command(alloc, source),
         Ok(Asked::Gen { signals, threads }) => gen_command(rt, alloc, gate, signals, threads),
         Ok(Asked::Fit { calls }) => fit_command(alloc, source, calls),
+        Ok(Asked::Lanes { calls }) => lanes_command(alloc, source, calls),
         Ok(Asked::At { place, leg }) => at_command(alloc, source, place, leg),
         Ok(Asked::Explain) => explain_command(rt, alloc, gate, source),
         Ok(Asked::Draw) => draw_command(alloc, source),
@@ -205,6 +208,25 @@ fn fit_command<S: Source>(alloc: Global, source: &mut S, calls: u32) -> Answer
     };
     match say_fit(alloc, &input, calls.into()) {
         Ok(fitted) => Answer::Answered(fitted),
+        Err(AllocError) => Answer::Refused(Status::Memory),
+    }
+}
+
+// The same as a picture.
+fn lanes_command<S: Source>(alloc: Global, source: &mut S, calls: u32) -> Answer
+    ensures caused { AnswerIsCaused
+        (LanesCauses calls (S.left source.old) (Rose (S.faults source.old) (S.faults source.new)))
+        [] result }
+    ensures to_the_end { MayEndWell result → IsAtEnd (S.left source.old) (S.left source.new) }
+{
+    let input = match read_all(alloc, source, LIMIT) {
+        Ok(input) => input,
+        Err(ReadAllError::Memory) => return Answer::Refused(Status::Memory),
+        Err(ReadAllError::Failed) => return Answer::Refused(Status::ReadFault),
+        Err(ReadAllError::TooLong) => return Answer::Refused(Status::TooLong),
+    };
+    match say_lanes(alloc, &input, calls.into()) {
+        Ok(shown) => Answer::Answered(shown),
         Err(AllocError) => Answer::Refused(Status::Memory),
     }
 }

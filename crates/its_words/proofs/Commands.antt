@@ -1,5 +1,5 @@
 -- The words that the parser takes for `its`, and what it makes of them.
-use Rattle.std.proofs.Common.{◌≡◌, ◌∙◌, Bool, true, false, List, [], ◌∷◌, cond, Option, Some, None, refl, sym, ap, ap₂, subst, inl, inr, codes, is_some}
+use Rattle.std.proofs.Common.{◌≡◌, ◌∙◌, ℕ, Bool, true, false, List, [], ◌∷◌, cond, Option, Some, None, refl, sym, ap, ap₂, subst, inl, inr, codes, is_some}
 use Rattle.std.specs.Prelude.{fold}
 use Rattle.std.specs.Str.{bytes_eq}
 use Rattle.std.proofs.lemmas.Slice.Eq.{bytes_eq-Decides}
@@ -11,13 +11,13 @@ use Rattle.clap.specs.Words.{Text, first_of, subcommand_of}
 use Rattle.clap.proofs.FaultLemmas.{stopped_fault}
 use Rattle.clap.proofs.OnLiterals.{clap_on_literals}
 use Rattle.its_words.specs.Command.{its_app}
-use Rattle.its_words.specs.Words.{alone, asked_by, asked_in, at_by, at_of, command_of, fit_by, fit_of, gen_by, gen_of, is_none}
-use Rattle.its_words.specs.Words.{without_separator}
+use Rattle.its_words.specs.Words.{alone, asked_by, asked_in, at_by, at_of, calls_by, calls_of, command_of, fit_of_number, gen_by, gen_of, is_none}
+use Rattle.its_words.specs.Words.{lanes_of_number, without_separator}
 use Rattle.its_words.specs.declared.words.Asked.{Asked}
 use Rattle.its_words.specs.declared.words.Asked.TheVariants.{Run, Check, Explain, Draw, Help, Version}
 use Rattle.its_words.proofs.Bare.{bare, takes_none}
 use Rattle.its_words.proofs.Generated.{gen, takes_two}
-use Rattle.its_words.proofs.Fitted.{fit, takes_one}
+use Rattle.its_words.proofs.Fitted.{counted, takes_one}
 use Rattle.its_words.proofs.Placed.{at, takes_one_or_two}
 use Rattle.its_words.proofs.WordKinds.{kind_of_word}
 use Rattle.its_words.proofs.Turns.{faulty_turn, first_word, nothing_after, stopped_walk, value_turn}
@@ -101,12 +101,26 @@ gen_parsed program rest =
     (first_of (codes "threads") (rows_after gen.rules [] rest))) None) (nothing_after _)
     ∙ takes_two rest
 
-fit_parsed : (program : Text) (rest : List Text) → parsed (program ∷ codes "fit" ∷ rest) ≡ fit_of (without_separator rest)
+made : (make : Option ℕ → Option Asked) → make None ≡ None → (b : Bool) (n : Option ℕ) → cond b (make n) None ≡ make (cond b n None)
+made make none true n = refl
+made make none false n = sym none
+
+-- what a number of calls makes, where the words of a command of such a name give one
+counted_parsed : (name : Text) (make : Option ℕ → Option Asked) → make None ≡ None → (rest : List Text)
+    → cond (is_none (or_else (level_fault (counted name) [] nothing_held rest false []) []))
+    (make (calls_by (first_of (codes "calls") (rows_after (counted name).rules [] rest)))) None
+    ≡ make (calls_of (without_separator rest))
+counted_parsed name make none rest =
+    ap (λ (k : Kinds). cond (is_none k) (make (calls_by (first_of (codes "calls") (rows_after (counted name).rules [] rest)))) None) (nothing_after _)
+    ∙ made make none (is_none (level_fault (counted name) [] nothing_held rest false [])) _ ∙ ap make (takes_one name rest)
+
+fit_parsed : (program : Text) (rest : List Text) → parsed (program ∷ codes "fit" ∷ rest) ≡ fit_of_number (calls_of (without_separator rest))
 unfolding clap_on_literals
-fit_parsed program rest =
-    goes_in program (codes "fit") rest refl refl
-    ∙ ap (λ (k : Kinds). cond (is_none k) (fit_by (first_of (codes "calls") (rows_after fit.rules [] rest))) None) (nothing_after _)
-    ∙ takes_one rest
+fit_parsed program rest = goes_in program (codes "fit") rest refl refl ∙ counted_parsed (codes "fit") fit_of_number refl rest
+
+lanes_parsed : (program : Text) (rest : List Text) → parsed (program ∷ codes "lanes" ∷ rest) ≡ lanes_of_number (calls_of (without_separator rest))
+unfolding clap_on_literals
+lanes_parsed program rest = goes_in program (codes "lanes") rest refl refl ∙ counted_parsed (codes "lanes") lanes_of_number refl rest
 
 at_parsed : (program : Text) (rest : List Text) → parsed (program ∷ codes "at" ∷ rest) ≡ at_of (without_separator rest)
 unfolding clap_on_literals
@@ -148,35 +162,36 @@ module _ (program name : Text) (rest : List Text) where
   is_named w e h = subst Asks (sym (text_is w name e)) h
 
   no_command : (d : Bool) → bytes_eq name (codes "--") ≡ d → bytes_eq (codes "run") name ≡ false → bytes_eq (codes "check") name ≡ false
-      → bytes_eq (codes "gen") name ≡ false → bytes_eq (codes "fit") name ≡ false → bytes_eq (codes "at") name ≡ false
-      → bytes_eq (codes "explain") name ≡ false
+      → bytes_eq (codes "gen") name ≡ false → bytes_eq (codes "fit") name ≡ false → bytes_eq (codes "lanes") name ≡ false
+      → bytes_eq (codes "at") name ≡ false → bytes_eq (codes "explain") name ≡ false
       → bytes_eq (codes "draw") name ≡ false → bytes_eq (codes "help") name ≡ false → bytes_eq (codes "version") name ≡ false → Asks name
-  no_command true ed er ek eg ef ea ex ew eh ev = subst Asks (sym ((bytes_eq-Decides name (codes "--")).0 ed)) (separator_parsed program rest)
-  no_command false ed er ek eg ef ea ex ew eh ev =
-      other_parsed program name rest ed (rw (er, ek, eg, ef, ea, ex, ew, eh, ev) refl) ∙ rw (er, ek, eg, ef, ea, ex, ew, eh, ev) refl
+  no_command true ed er ek eg ef el ea ex ew eh ev = subst Asks (sym ((bytes_eq-Decides name (codes "--")).0 ed)) (separator_parsed program rest)
+  no_command false ed er ek eg ef el ea ex ew eh ev =
+      other_parsed program name rest ed (rw (er, ek, eg, ef, el, ea, ex, ew, eh, ev) refl) ∙ rw (er, ek, eg, ef, el, ea, ex, ew, eh, ev) refl
 
   by_later : (x w h v : Bool) → bytes_eq (codes "explain") name ≡ x → bytes_eq (codes "draw") name ≡ w → bytes_eq (codes "help") name ≡ h
       → bytes_eq (codes "version") name ≡ v
       → bytes_eq (codes "run") name ≡ false → bytes_eq (codes "check") name ≡ false → bytes_eq (codes "gen") name ≡ false
-      → bytes_eq (codes "fit") name ≡ false → bytes_eq (codes "at") name ≡ false → Asks name
-  by_later true w h v ex ew eh ev er ek eg ef ea = is_named (codes "explain") ex (explain_parsed program rest)
-  by_later false true h v ex ew eh ev er ek eg ef ea = is_named (codes "draw") ew (draw_parsed program rest)
-  by_later false false true v ex ew eh ev er ek eg ef ea = is_named (codes "help") eh (help_parsed program rest)
-  by_later false false false true ex ew eh ev er ek eg ef ea = is_named (codes "version") ev (version_parsed program rest)
-  by_later false false false false ex ew eh ev er ek eg ef ea = no_command _ refl er ek eg ef ea ex ew eh ev
+      → bytes_eq (codes "fit") name ≡ false → bytes_eq (codes "lanes") name ≡ false → bytes_eq (codes "at") name ≡ false → Asks name
+  by_later true w h v ex ew eh ev er ek eg ef el ea = is_named (codes "explain") ex (explain_parsed program rest)
+  by_later false true h v ex ew eh ev er ek eg ef el ea = is_named (codes "draw") ew (draw_parsed program rest)
+  by_later false false true v ex ew eh ev er ek eg ef el ea = is_named (codes "help") eh (help_parsed program rest)
+  by_later false false false true ex ew eh ev er ek eg ef el ea = is_named (codes "version") ev (version_parsed program rest)
+  by_later false false false false ex ew eh ev er ek eg ef el ea = no_command _ refl er ek eg ef el ea ex ew eh ev
 
-  by_name : (r k g f a : Bool) → bytes_eq (codes "run") name ≡ r → bytes_eq (codes "check") name ≡ k → bytes_eq (codes "gen") name ≡ g
-      → bytes_eq (codes "fit") name ≡ f → bytes_eq (codes "at") name ≡ a → Asks name
-  by_name true k g f a er ek eg ef ea = is_named (codes "run") er (run_parsed program rest)
-  by_name false true g f a er ek eg ef ea = is_named (codes "check") ek (check_parsed program rest)
-  by_name false false true f a er ek eg ef ea = is_named (codes "gen") eg (gen_parsed program rest)
-  by_name false false false true a er ek eg ef ea = is_named (codes "fit") ef (fit_parsed program rest)
-  by_name false false false false true er ek eg ef ea = is_named (codes "at") ea (at_parsed program rest)
-  by_name false false false false false er ek eg ef ea = by_later _ _ _ _ refl refl refl refl er ek eg ef ea
+  by_name : (r k g f l a : Bool) → bytes_eq (codes "run") name ≡ r → bytes_eq (codes "check") name ≡ k → bytes_eq (codes "gen") name ≡ g
+      → bytes_eq (codes "fit") name ≡ f → bytes_eq (codes "lanes") name ≡ l → bytes_eq (codes "at") name ≡ a → Asks name
+  by_name true k g f l a er ek eg ef el ea = is_named (codes "run") er (run_parsed program rest)
+  by_name false true g f l a er ek eg ef el ea = is_named (codes "check") ek (check_parsed program rest)
+  by_name false false true f l a er ek eg ef el ea = is_named (codes "gen") eg (gen_parsed program rest)
+  by_name false false false true l a er ek eg ef el ea = is_named (codes "fit") ef (fit_parsed program rest)
+  by_name false false false false true a er ek eg ef el ea = is_named (codes "lanes") el (lanes_parsed program rest)
+  by_name false false false false false true er ek eg ef el ea = is_named (codes "at") ea (at_parsed program rest)
+  by_name false false false false false false er ek eg ef el ea = by_later _ _ _ _ refl refl refl refl er ek eg ef el ea
 
 -- the parser makes of words what a command asks for
 pub parsed-command_of : (words : List Text) → parsed words ≡ command_of words
 unfolding command_of clap_on_literals
 parsed-command_of [] = faulty [] refl
 parsed-command_of (program ∷ []) = faulty (program ∷ []) refl
-parsed-command_of (program ∷ name ∷ rest) = by_name program name rest _ _ _ _ _ refl refl refl refl refl
+parsed-command_of (program ∷ name ∷ rest) = by_name program name rest _ _ _ _ _ _ refl refl refl refl refl refl

@@ -11,8 +11,14 @@ abbrev pub gen_app : App
 gen_app = with_rule (with_rule (new_app (codes "gen")) (needed_rule (codes "signals"))) (needed_rule (codes "threads"))
 
 -- a number of calls may be there
+abbrev pub calls_app : List ℕ → App
+calls_app name = with_rule (new_app name) (record (new_rule (codes "calls")) { action = Some Set })
+
 abbrev pub fit_app : App
-fit_app = with_rule (new_app (codes "fit")) (record (new_rule (codes "calls")) { action = Some Set })
+fit_app = calls_app (codes "fit")
+
+abbrev pub lanes_app : App
+lanes_app = calls_app (codes "lanes")
 
 -- a place has to be there, and a leg may be
 abbrev pub at_app : App
@@ -28,7 +34,7 @@ abbrev pub running_app : App
 running_app = with_subcommand (with_subcommand (with_subcommand bare_app (new_app (codes "run")).top) (new_app (codes "check")).top) gen_app.top
 
 abbrev pub fitting_app : App
-fitting_app = with_subcommand running_app fit_app.top
+fitting_app = with_subcommand (with_subcommand running_app fit_app.top) lanes_app.top
 
 abbrev pub placing_app : App
 placing_app = with_subcommand fitting_app at_app.top

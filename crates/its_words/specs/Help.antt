@@ -11,6 +11,7 @@ help_text =
     ++ codes "its draw      reads what `check` reads, and prints a picture of it, an SVG\n"
     ++ codes "its at P L    reads what `check` reads: what there is after place P of leg L\n"
     ++ codes "its fit N     reads replies with times: is there a history? N calls may be tried\n"
+    ++ codes "its lanes N   reads what `fit` reads, and prints a picture of it, an SVG\n"
     ++ codes "its gen N T   plays a made script: N signals (1 to 20000) of T threads (1 to 63)\n"
     ++ codes "its help      prints this; so do `its --help` and `its -h`\n"
     ++ codes "its version   prints version, kit and limits; so do `its --version` and `its -V`\n"

@@ -7,7 +7,7 @@ use Rattle.clap.specs.Words.{Row, Text, fault_of, first_of, subcommand_of, subco
 use Rattle.clap.specs.declared.ArgMatches.{ArgMatches}
 use Rattle.its_words.specs.Command.{its_app}
 use Rattle.its_words.specs.declared.words.Asked.{Asked}
-use Rattle.its_words.specs.declared.words.Asked.TheVariants.{Run, Check, Gen, Fit, At, Explain, Draw, Help, Version}
+use Rattle.its_words.specs.declared.words.Asked.TheVariants.{Run, Check, Gen, Fit, Lanes, At, Explain, Draw, Help, Version}
 
 -- ---- numbers
 
@@ -34,18 +34,22 @@ gen_of (n ∷ t ∷ []) = gen_of_numbers (number_of 20000 n) (number_of 63 t)
 gen_of _ = None
 
 -- so many calls, and where no number is said 100000
+abbrev pub calls_by : Option Text → Option ℕ
+calls_by (Some n) = number_of 1000000000 n
+calls_by None = Some 100000
+
+abbrev pub calls_of : List Text → Option ℕ
+calls_of [] = calls_by None
+calls_of (n ∷ []) = calls_by (Some n)
+calls_of _ = None
+
 abbrev pub fit_of_number : Option ℕ → Option Asked
 fit_of_number (Some n) = Some (Fit n)
 fit_of_number None = None
 
-abbrev pub fit_by : Option Text → Option Asked
-fit_by (Some n) = fit_of_number (number_of 1000000000 n)
-fit_by None = Some (Fit 100000)
-
-abbrev pub fit_of : List Text → Option Asked
-fit_of [] = fit_by None
-fit_of (n ∷ []) = fit_by (Some n)
-fit_of _ = None
+abbrev pub lanes_of_number : Option ℕ → Option Asked
+lanes_of_number (Some n) = Some (Lanes n)
+lanes_of_number None = None
 
 -- a leg is counted from 1, and is the first one where no number is said
 abbrev pub leg_of : Option Text → Option ℕ
@@ -77,12 +81,13 @@ asked_by name words =
     if bytes_eq (codes "run") name then alone Run words
     else (if bytes_eq (codes "check") name then alone Check words
     else (if bytes_eq (codes "gen") name then gen_of words
-    else (if bytes_eq (codes "fit") name then fit_of words
+    else (if bytes_eq (codes "fit") name then fit_of_number (calls_of words)
+    else (if bytes_eq (codes "lanes") name then lanes_of_number (calls_of words)
     else (if bytes_eq (codes "at") name then at_of words
     else (if bytes_eq (codes "explain") name then alone Explain words
     else (if bytes_eq (codes "draw") name then alone Draw words
     else (if bytes_eq (codes "help") name then alone Help words
-    else (if bytes_eq (codes "version") name then alone Version words else None))))))))
+    else (if bytes_eq (codes "version") name then alone Version words else None)))))))))
 
 -- the words without the first `--`, after which no word names an option
 abbrev pub without_separator : List Text → List Text
@@ -130,13 +135,14 @@ asked_in None = None
 asked_in (Some (name, rows)) =
     if bytes_eq name (codes "run") then Some Run
     else (if bytes_eq name (codes "check") then Some Check
-    else (if bytes_eq name (codes "fit") then fit_by (first_of (codes "calls") rows)
+    else (if bytes_eq name (codes "fit") then fit_of_number (calls_by (first_of (codes "calls") rows))
+    else (if bytes_eq name (codes "lanes") then lanes_of_number (calls_by (first_of (codes "calls") rows))
     else (if bytes_eq name (codes "at") then at_by (first_of (codes "place") rows) (first_of (codes "leg") rows)
     else (if bytes_eq name (codes "explain") then Some Explain
     else (if bytes_eq name (codes "draw") then Some Draw
     else (if bytes_eq name (codes "help") then Some Help
     else (if bytes_eq name (codes "version") then Some Version
-    else gen_by (first_of (codes "signals") rows) (first_of (codes "threads") rows))))))))
+    else gen_by (first_of (codes "signals") rows) (first_of (codes "threads") rows)))))))))
 
 -- the parser finds no fault with the words
 unfoldable pub is_taken : List Text → Bool
@@ -153,6 +159,7 @@ IsInRange Run = Unit {0}
 IsInRange Check = Unit {0}
 IsInRange (Gen n t) = (1 ≤ n) × (n ≤ 20000) × (1 ≤ t) × (t ≤ 63)
 IsInRange (Fit n) = (1 ≤ n) × (n ≤ 1000000000)
+IsInRange (Lanes n) = (1 ≤ n) × (n ≤ 1000000000)
 IsInRange (At place leg) = (place ≤ 1000000000) × (1 ≤ leg) × (leg ≤ 64)
 IsInRange Explain = Unit {0}
 IsInRange Draw = Unit {0}

@@ -2,7 +2,7 @@
 ghost use Rattle.std.specs.Prelude.{◌≡◌, IfOk, codes, false};
 ghost use Rattle.clap.specs.Words.{app_of, rule_of};
 ghost use Rattle.clap.specs.declared.Command.TheViews.{out-Command};
-ghost use Rattle.its_words.specs.Command.{at_app, fit_app, fitting_app, gen_app, its_app};
+ghost use Rattle.its_words.specs.Command.{at_app, calls_app, fitting_app, gen_app, its_app};
 ghost use Rattle.its_words.specs.Command.{needed_rule, placing_app, running_app};
 
 use clap::{Arg, ArgAction, Command};
@@ -23,7 +23,7 @@ pub fn its_command<'a>(alloc: Global) -> Result<Command<'a>, AllocError>
         .subcommand(version)
 }
 
-// The same with the commands alone that run, check or fit something, or list a place.
+// The same with the commands alone that run, check or fit something, list a place, or draw a fit.
 fn placing_command<'a>(alloc: Global) -> Result<Command<'a>, AllocError>
     ensures { IfOk result (λ c. app_of c ≡ placing_app) }
 {
@@ -35,11 +35,12 @@ fn placing_command<'a>(alloc: Global) -> Result<Command<'a>, AllocError>
 fn fitting_command<'a>(alloc: Global) -> Result<Command<'a>, AllocError>
     ensures { IfOk result (λ c. app_of c ≡ fitting_app) }
 {
-    let fit = fit_command(alloc)?;
-    running_command(alloc)?.subcommand(fit)
+    let fit = calls_command(alloc, "fit")?;
+    let lanes = calls_command(alloc, "lanes")?;
+    running_command(alloc)?.subcommand(fit)?.subcommand(lanes)
 }
 
-// The same without `fit` either.
+// The same without `fit` and `lanes` either.
 fn running_command<'a>(alloc: Global) -> Result<Command<'a>, AllocError>
     ensures { IfOk result (λ c. app_of c ≡ running_app) }
 {
@@ -65,13 +66,13 @@ fn gen_command<'a>(alloc: Global) -> Result<Command<'a>, AllocError>
     Command::new(alloc, "gen").arg(signals)?.arg(threads)
 }
 
-// `fit` with a number that may be left out.
-fn fit_command<'a>(alloc: Global) -> Result<Command<'a>, AllocError>
-    ensures app { IfOk result (λ c. app_of c ≡ fit_app) }
+// A command with a number of calls that may be left out.
+fn calls_command<'a>(alloc: Global, name: &'a str) -> Result<Command<'a>, AllocError>
+    ensures app { IfOk result (λ c. app_of c ≡ calls_app name.entry.now) }
     ensures local { IfOk result (λ c. (out-Command c).has_globals ≡ false) }
 {
     let calls = Arg::new(alloc, "calls").action(ArgAction::Set);
-    Command::new(alloc, "fit").arg(calls)
+    Command::new(alloc, name).arg(calls)
 }
 
 // `at` with its place, and a leg that may be left out.

@@ -15,6 +15,7 @@ its explain   reads what one of these reads, and says what came of each call
 its draw      reads what `check` reads, and prints a picture of it, an SVG
 its at P L    reads what `check` reads: what there is after place P of leg L
 its fit N     reads replies with times: is there a history? N calls may be tried
+its lanes N   reads what `fit` reads, and prints a picture of it, an SVG
 its gen N T   plays a made script: N signals (1 to 20000) of T threads (1 to 63)
 its help      prints this; so do `its --help` and `its -h`
 its version   prints version, kit and limits; so do `its --version` and `its -V`

@@ -5,7 +5,7 @@ ghost use Rattle.std.specs.String.{string_bytes};
 ghost use Rattle.clap.specs.Words.{first_value, found_of, subcommand_of, subcommand_rows_of, takes};
 ghost use Rattle.its_words.specs.Command.{its_app};
 ghost use Rattle.its_words.specs.Words as spec;
-ghost use Rattle.its_words.specs.Words.{asked_in, asked_of, at_by, fit_by, gen_by, is_taken};
+ghost use Rattle.its_words.specs.Words.{asked_in, asked_of, at_by, calls_by, gen_by, is_taken};
 ghost use Rattle.its_words.specs.Words.{number_of, number_or_zero_of};
 ghost use Rattle.its_words.specs.Words.{option_of, or_else_asked, IsInRange, IsMatched};
 ghost use Rattle.its_words.specs.declared.words.WordsError.TheVariants.{NoMemory};
@@ -22,10 +22,10 @@ const MOST_SIGNALS: u32 = 20_000;
 /// How many threads may be asked for.
 const MOST_THREADS: u32 = 63;
 
-/// How many calls `fit` may be asked to try.
+/// How many calls `fit` and `lanes` may be asked to try.
 const MOST_CALLS: u32 = 1_000_000_000;
 
-/// How many calls `fit` tries, where no number says so.
+/// How many calls they try, where no number says so.
 const FEW_CALLS: u32 = 100_000;
 
 /// The last place that may be asked for: no report has as many lines.
@@ -48,6 +48,8 @@ pub enum Asked {
     Gen { signals: u32, threads: u32 },
     /// Looks for a history that explains replies, and tries at most so many calls.
     Fit { calls: u32 },
+    /// Draws what `fit` finds with at most so many calls.
+    Lanes { calls: u32 },
     /// Lists what the machine has after the call at a place of a report, counted from 0 as its lines
     /// are, of a leg, counted from 1.
     At { place: u32, leg: u32 },
@@ -160,6 +162,7 @@ fn read(matches: &ArgMatches) -> Option<Asked>
         "run" => Some(Asked::Run),
         "check" => Some(Asked::Check),
         "fit" => fitting(matches),
+        "lanes" => drawing(matches),
         "at" => listing(matches),
         "explain" => Some(Asked::Explain),
         "draw" => Some(Asked::Draw),
@@ -182,15 +185,32 @@ fn generation(matches: &ArgMatches) -> Option<Asked>
 
 // The number of `fit`.
 fn fitting(matches: &ArgMatches) -> Option<Asked>
-    ensures value { result ≡ fit_by (first_value (found_of matches.now) (codes "calls")) }
+    ensures value { result ≡ spec.fit_of_number
+        (calls_by (first_value (found_of matches.now) (codes "calls"))) }
     ensures range { IfSome result IsInRange }
 {
+    let calls = calls_in(matches)?;
+    Some(Asked::Fit { calls })
+}
+
+// The number of `lanes`.
+fn drawing(matches: &ArgMatches) -> Option<Asked>
+    ensures value { result ≡ spec.lanes_of_number
+        (calls_by (first_value (found_of matches.now) (codes "calls"))) }
+    ensures range { IfSome result IsInRange }
+{
+    let calls = calls_in(matches)?;
+    Some(Asked::Lanes { calls })
+}
+
+// How many calls may be tried.
+fn calls_in(matches: &ArgMatches) -> Option<u32>
+    ensures value { result ≡ calls_by (first_value (found_of matches.now) (codes "calls")) }
+    ensures range { IfSome result (λ n. (1 ≤ n) × (n ≤ 1000000000)) }
+{
     match matches.get_str("calls") {
-        Some(text) => {
-            let calls = number(text, MOST_CALLS)?;
-            Some(Asked::Fit { calls })
-        }
-        None => Some(Asked::Fit { calls: FEW_CALLS }),
+        Some(text) => number(text, MOST_CALLS),
+        None => Some(FEW_CALLS),
     }
 }
 

@@ -29,6 +29,8 @@ mod kvm_saved_tests;
 #[cfg(test)]
 mod kvm_tests;
 #[cfg(test)]
+mod lanes_tests;
+#[cfg(test)]
 mod many_tests;
 #[cfg(test)]
 mod migration_tests;

@@ -5,7 +5,7 @@ use std::test::Fail;
 
 const REFUSED: Result<Asked, WordsError> = Err(WordsError::Refused);
 
-const ROWS: [(&str, Result<Asked, WordsError>); 36] = [
+const ROWS: [(&str, Result<Asked, WordsError>); 40] = [
     ("its run", Ok(Asked::Run)),
     ("its check --", Ok(Asked::Check)),
     (
@@ -53,6 +53,10 @@ const ROWS: [(&str, Result<Asked, WordsError>); 36] = [
     ("its fit 1000000001", REFUSED),
     ("its fit 0", REFUSED),
     ("its fit 1 2", REFUSED),
+    ("its lanes", Ok(Asked::Lanes { calls: 100_000 })),
+    ("its lanes 7 --", Ok(Asked::Lanes { calls: 7 })),
+    ("its lanes 0", REFUSED),
+    ("its lanes 1 2", REFUSED),
 ];
 
 // What the words of a line ask for.
