@@ -1,17 +1,30 @@
 -- What is shown is what `fit` says, and is said of the bytes.
-use Rattle.std.proofs.Common.{◌≡◌, ℕ, List, [], ◌∷◌, ◌++◌, length, Option, Result, Ok, Err, refl, sym, subst, codes}
+use Rattle.std.proofs.Common.{◌≡◌, ◌≢◌, ℕ, List, [], ◌∷◌, ◌++◌, length, Option, Result, Ok, Err, refl, subst, inl, inr, codes}
 use Rattle.std.specs.Prelude.{replicate}
+use Rattle.its_plain.specs.Described.{IsMadeFrom}
+use Rattle.its_plain.specs.Plain.{Plain}
 use Rattle.its_plain.specs.Runs.{Phase}
+use Rattle.its_plain.specs.declared.desc.DescFault.{DescFault}
+use Rattle.its_plain.specs.declared.make.MakeError.{MakeError}
+use Rattle.its_plain.specs.declared.make.MakeError.TheVariants as making
+use Rattle.event_script.specs.Script.{check_of, FailsAs}
+use Rattle.event_script.specs.declared.fault.ParseError.{ParseError}
+use Rattle.event_script.specs.declared.fault.ParseError.TheVariants as parsing
+use Rattle.event_script.specs.declared.fault.ScriptFault.{ScriptFault}
+use Rattle.event_script.specs.declared.script.Script.{Script}
 use Rattle.its_history.specs.Report.{report_text}
-use Rattle.its_answers.specs.Checked.{IsNoMachine}
+use Rattle.its_history.specs.declared.reading.TraceError.{TraceError}
+use Rattle.its_history.specs.declared.reading.TraceError.TheVariants as trace
+use Rattle.its_answers.specs.Checked.{IsCheckInput, IsNoMachine}
+use Rattle.its_answers.specs.Refusals.{machine_refusal, trace_refusal}
 use Rattle.its_answers.specs.Streams.{WasRead}
 use Rattle.its_answers.specs.declared.status.Status.{Status}
 use Rattle.its_answers.specs.declared.status.Status.TheVariants as status
 use Rattle.its_fit.specs.declared.told.Told.{Told}
-use Rattle.event_script.specs.declared.script.Script.{Script}
-use Rattle.fit_answers.specs.FitSays.{FitCauses, FitSays, IsAnswered, IsBadTold, IsFitInput}
+use Rattle.fit_answers.specs.FitSays.{FitCauses, FitSays, IsAnswered, IsBadTold, IsFitInput, IsOnePhase, IsUneven, replies_refusal}
 use Rattle.fit_answers.specs.Reached.{reached_lines}
-use Rattle.fit_answers.proofs.Saying.{answered, fit_causes}
+use Rattle.fit_answers.specs.ToldText.{IsToldAs, told_of}
+use Rattle.fit_answers.proofs.Saying.{answered, failed_as, fit_causes, no_script, refused_as}
 use Rattle.fit_lanes.specs.LanesSays.{IsNoFitInput, LanesCauses, LanesSays, OfShown, ToldShows}
 
 -- ---- what `fit` says
@@ -76,11 +89,52 @@ refused input bound status.TraceDiffers text none h = absurd (none h.script h.ca
 refused input bound status.BadTrace text none h = h
 refused input bound status.Undecided text none h = absurd (none h.script h.calls h.told h.is_input)
 
-pub no_machine : (input text : List ℕ) → IsNoMachine input text → IsNoFitInput input
-no_machine input text h = answered input 0 status.MachineRefused text h
+-- bytes that are no script
+pub no_script_as : (input : List ℕ) (e : ParseError) (fault : ScriptFault) → e ≡ parsing.Fault fault → FailsAs e (check_of input) → IsNoFitInput input
+no_script_as input e fault is h = no_script input fault (failed_as input e fault is h)
 
+-- a script that describes no machine
+pub no_machine_as : (input : List ℕ) (script : Script) (lines : List (List ℕ)) (e : MakeError) (fault : DescFault) → e ≡ making.Fault fault
+    → IsMadeFrom script.desc (Err e) → check_of input ≡ Ok (script, lines) → IsNoFitInput input
+no_machine_as input script lines e fault is h read =
+    let none : IsNoMachine input (machine_refusal script.fill_lines script.requester_lines fault) =
+    record { script = script; lines = lines; fault = fault; read = read; refused = refused_as script.desc e fault is h; same = refl } in
+    answered input 0 status.MachineRefused (machine_refusal script.fill_lines script.requester_lines fault) none
+
+-- what isn't told as it must be
 pub no_told : (input text : List ℕ) → IsBadTold input text → IsNoFitInput input
 no_told input text h = answered input 0 status.BadTrace text h
+
+pub no_phase : (input : List ℕ) (script : Script) (first : Plain) (report : List ℕ) → IsCheckInput input script first report
+    → ((calls : Phase) → script.legs ≢ (calls ∷ []) ∷ []) → IsNoFitInput input
+no_phase input script first report is many = no_told input (codes "refused phases\n")
+    (inl (record { script = script; first = first; report = report; is_input = is; many = many; text_is = refl }))
+
+pub no_line_as : (input : List ℕ) (script : Script) (calls : Phase) (report : List ℕ) (e : TraceError) (line : ℕ) → e ≡ trace.BadLine line
+    → IsToldAs (Err e) (told_of (length calls) script.desc.shape.vcpus report) → IsOnePhase input script calls report → IsNoFitInput input
+no_line_as input script calls report e line is h phase = no_told input (trace_refusal line) (inr (inl (record {
+  script = script;
+  calls = calls;
+  report = report;
+  is_phase = phase;
+  line = line;
+  is_bad = subst (λ (x : TraceError). IsToldAs (Err x) (told_of (length calls) script.desc.shape.vcpus report)) is h;
+  text_is = refl;
+})))
+
+pub no_reply : (input : List ℕ) (script : Script) (calls : Phase) (report : List ℕ) (told : Told) (number : ℕ) → IsOnePhase input script calls report
+    → told_of (length calls) script.desc.shape.vcpus report ≡ Ok told → IsUneven calls told.threads number → IsNoFitInput input
+no_reply input script calls report told number phase is uneven = no_told input (replies_refusal number) (inr (inr (record {
+  script = script;
+  calls = calls;
+  report = report;
+  told = told;
+  is_phase = phase;
+  is_told = is;
+  number = number;
+  uneven = uneven;
+  text_is = refl;
+})))
 
 -- ---- a picture
 

@@ -58,7 +58,7 @@ fn bars_of(
     calls: &[Answered],
 ) -> Result<Listed<Bar>, AllocError>
     ensures { IfOk result (λ bars.
-        bars ≡ spec.bars_from places.now (option_map (λ t. t.now) next) 0 calls.now) }
+        bars ≡ spec.bars_from places.now (option_map (λ t. t.now) next.entry) 0 calls.now) }
 {
     let mut bars = Vec::new(alloc);
     let mut rest = calls;
@@ -87,7 +87,7 @@ fn look_of(
     call: usize,
 ) -> Result<Look, AllocError>
     ensures { IfOk result (λ look.
-        look ≡ spec.look_of places.now (option_map (λ t. t.now) next) call) }
+        look ≡ spec.look_of places.now (option_map (λ t. t.now) next.entry) call) }
 {
     match places.get(call) {
         Some(place) => Ok(Look::Placed(*place)),
@@ -97,7 +97,7 @@ fn look_of(
 
 /// How one looks that has no place.
 fn look_after(alloc: Global, next: Option<&Text>, is_next: bool) -> Result<Look, AllocError>
-    ensures { IfOk result (λ look. look ≡ spec.look_after (option_map (λ t. t.now) next) is_next) }
+    ensures { IfOk result (λ look. look ≡ spec.look_after (option_map (λ t. t.now) next.entry) is_next) }
 {
     match next {
         None => Ok(Look::Plain),

@@ -6,7 +6,7 @@ ghost use Rattle.fit_lanes.specs.Nexts as spec;
 
 use crate::order::{ends_of, log_of, places_of, told_at};
 use crate::replies::would_be;
-use its_fit::{Answered, Made, Recording};
+use its_fit::{Made, Recording};
 use its_history::Text;
 use its_types::Listed;
 use std::alloc::{AllocError, Global};
@@ -26,9 +26,9 @@ pub fn nexts_of(
     let ends = ends_of(alloc, told, order)?;
     let mut nexts = Listed::new(alloc);
     for thread in 0..told.len() {
-        let call = places_of(alloc, order, thread)?.len();
-        let made = Made { thread, call };
-        let words = next_text(alloc, recording, told, &log, &ends, made)?;
+        let places = places_of(alloc, order, thread)?;
+        let call = places.len();
+        let words = next_text(alloc, recording, &log, &ends, Made { thread, call })?;
         nexts.push(words)?;
     }
     Ok(nexts)
@@ -38,17 +38,16 @@ pub fn nexts_of(
 fn next_text(
     alloc: Global,
     recording: &Recording<'_>,
-    told: &[Listed<Answered>],
     log: &[Made],
     ends: &[Option<u64>],
     made: Made,
 ) -> Result<Text, AllocError>
     ensures { IfOk result (λ words. spec.IfTold
-        (replays.told_at told.now made.thread made.call)
+        (replays.told_at recording.now.told.now.threads made.thread made.call)
         (λ a. spec.IsSaid recording.now.desc.now recording.now.calls.now log.now ends.now made a
         words)) }
 {
-    let Some(answered) = told_at(told, made) else {
+    let Some(answered) = told_at(recording.told.threads.as_slice(), made) else {
         return Ok(Text::new(String::new(alloc)));
     };
     match waits_for(ends, answered.span.begin) {

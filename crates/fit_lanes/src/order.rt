@@ -1,5 +1,5 @@
 //! Orders of calls: which thread's next call comes, one after another.
-ghost use Rattle.std.specs.Prelude.{◌≡◌, IfOk, map, option_map, slice_index};
+ghost use Rattle.std.specs.Prelude.{◌≡◌, IfOk, map, option_map, slice_index, slice_set};
 ghost use Rattle.fit_lanes.specs.Bars as spec;
 ghost use Rattle.fit_lanes.specs.Nexts as nexts;
 ghost use Rattle.its_fit.specs.Replays as replays;
@@ -69,6 +69,15 @@ fn count_of(front: &[usize], thread: usize) -> usize
     }
 }
 
+/// Notes how many calls of a thread went.
+fn set_count(front: &mut Vec<usize>, thread: usize, count: usize)
+    ensures { front.new.items ≡ slice_set front.old.items thread count }
+{
+    if let Some(known) = front.get_mut(thread) {
+        *known = count;
+    }
+}
+
 /// The calls of an order. One that can't be counted is answered as if memory had run out.
 pub fn log_of(alloc: Global, threads: usize, order: &[usize]) -> Result<Vec<Made>, AllocError>
     ensures { IfOk result (λ log. log.items ≡ nexts.log_of threads order.now) }
@@ -83,9 +92,7 @@ pub fn log_of(alloc: Global, threads: usize, order: &[usize]) -> Result<Vec<Made
             return Err(AllocError);
         }
         log.push(Made { thread, call })?;
-        if let Some(count) = front.get_mut(thread) {
-            *count = call + 1;
-        }
+        set_count(&mut front, thread, call + 1);
         rest = later;
     }
     Ok(log)

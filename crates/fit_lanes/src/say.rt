@@ -1,6 +1,6 @@
 //! What is said to a script and what its threads were told: a picture, or why there is none.
-ghost use Rattle.std.specs.Prelude.{◌≡◌, ◌≢◌, ◌∷◌, [], IfOk, IfNone, IfSome, Ok, false};
-ghost use Rattle.std.specs.Prelude.{length, true};
+ghost use Rattle.std.specs.Prelude.{◌≡◌, ◌≢◌, ◌∷◌, [], ℕ, IfOk, IfNone, IfSome, List, Ok};
+ghost use Rattle.std.specs.Prelude.{length};
 ghost use Rattle.std.specs.String.{string_bytes};
 ghost use Rattle.event_script.specs.Limits.{IsWithinLimits};
 ghost use Rattle.event_script.specs.Script.{check_of};
@@ -13,10 +13,11 @@ ghost use Rattle.its_fit.specs.Verdicts.{IsMisfit, IsStart};
 ghost use Rattle.its_plain.specs.Machine.{IsDescription};
 ghost use Rattle.its_plain.specs.Plain.{Plain};
 ghost use Rattle.its_plain.specs.Runs.{Phase};
-ghost use Rattle.fit_answers.specs.FitSays.{AllHaveAll, IsAnswered, IsOnePhase};
+ghost use Rattle.fit_answers.specs.FitSays.{AllHaveAll, IsAnswered, IsOnePhase, IsUneven};
 ghost use Rattle.fit_answers.specs.ToldText.{told_of};
 ghost use Rattle.fit_lanes.specs.Bars.{order_of};
 ghost use Rattle.fit_lanes.specs.LanesSays as spec;
+ghost use Rattle.fit_lanes.specs.Nexts.{AreNexts};
 ghost use Rattle.fit_lanes.specs.Svg as lanes;
 
 use crate::nexts::nexts_of;
@@ -170,30 +171,31 @@ fn show_told(
         spec.LanesSays input.now bound e.status (string_bytes e.line)) }
 {
     let _ = report;
-    if has_all(calls, told.threads.as_slice()) {
-        let recording = Recording {
-            desc: &script.desc,
-            calls,
-            told,
-        };
-        let ending = show_recording(alloc, &recording, script.legs.as_slice(), bound)?;
-        Ok(ending)
-    } else {
-        refuse(alloc, input, bound)
+    match uneven(calls, told.threads.as_slice()) {
+        Some(_) => refuse(alloc, input, bound),
+        None => {
+            let recording = Recording {
+                desc: &script.desc,
+                calls,
+                told,
+            };
+            let ending = show_recording(alloc, &recording, script.legs.as_slice(), bound)?;
+            Ok(ending)
+        }
     }
 }
 
-/// Whether each thread has as many replies as calls.
-fn has_all(calls: &[Calls], told: &[Listed<Answered>]) -> bool
-    ensures all { result ≡ true → AllHaveAll calls.now told.now }
-    ensures uneven { result ≡ false → ¬ AllHaveAll calls.now told.now }
+/// The first thread, of which the first is 1, that has another number of calls than of replies.
+fn uneven(calls: &[Calls], told: &[Listed<Answered>]) -> Option<u64>
+    ensures some { IfSome result (λ number. IsUneven calls.now told.now number) }
+    ensures none { IfNone result (AllHaveAll calls.now told.now) }
 {
     for (thread, own) in calls.iter().enumerate() {
         if own.len() != reply_count(told, thread) {
-            return false;
+            return Some(thread as u64 + 1);
         }
     }
-    true
+    None
 }
 
 fn reply_count(told: &[Listed<Answered>], thread: usize) -> usize
@@ -241,41 +243,61 @@ fn show_verdict(
         recording.now.told.now bound e.status (string_bytes e.line)) }
 {
     let _ = bound;
-    let threads = recording.told.threads.as_slice();
     match verdict {
         Verdict::Fits(trace) => {
-            let line = fit_text(alloc, threads, trace)?;
+            let line = fit_text(alloc, recording.told, trace)?;
             let status = Status::Ok;
             Ok(Ending { status, line })
         }
         Verdict::Nowhere(order) => {
-            let nexts = nexts_of(alloc, recording, order)?;
-            let line = lanes_text(alloc, threads, order, nexts.as_slice())?;
+            let line = misfit_text(alloc, recording, order)?;
             let status = Status::TraceDiffers;
             Ok(Ending { status, line })
         }
         Verdict::Undecided(_) => {
-            let line = lanes_text(alloc, threads, &[], &[])?;
+            let line = plain_text(alloc, recording.told)?;
             let status = Status::Undecided;
             Ok(Ending { status, line })
         }
         Verdict::Unconfirmed(_) => Ok(Ending {
             status: Status::Undecided,
-            line: lanes_text(alloc, threads, &[], &[])?,
+            line: plain_text(alloc, recording.told)?,
         }),
     }
 }
 
 /// The picture in which each call has its place in a report.
-fn fit_text(
-    alloc: Global,
-    threads: &[Listed<Answered>],
-    trace: &Trace,
-) -> Result<String, AllocError>
+fn fit_text(alloc: Global, told: &Told, trace: &Trace) -> Result<String, AllocError>
     ensures { IfOk result (λ text. string_bytes text
-        ≡ lanes.lanes_text threads.now (order_of trace.now.legs) []) }
+        ≡ lanes.lanes_text told.now.threads (order_of trace.now.legs) []) }
 {
     let order = order_of(alloc, trace)?;
-    let text = lanes_text(alloc, threads, &order, &[])?;
+    let text = lanes_text(alloc, told.threads.as_slice(), &order, &[])?;
+    Ok(text)
+}
+
+/// The picture in which the calls of an order have places, and each thread's next call has none.
+fn misfit_text(
+    alloc: Global,
+    recording: &Recording<'_>,
+    order: &[usize],
+) -> Result<String, AllocError>
+    ensures { IfOk result (λ text. (nexts : List (List ℕ))
+        × (AreNexts recording.now.desc.now recording.now.calls.now recording.now.told.now.threads
+        order.now nexts × (string_bytes text
+        ≡ lanes.lanes_text recording.now.told.now.threads order.now nexts))) }
+{
+    let nexts = nexts_of(alloc, recording, order)?;
+    let threads = recording.told.threads.as_slice();
+    let text = lanes_text(alloc, threads, order, nexts.as_slice())?;
+    Ok(text)
+}
+
+/// The picture in which no call has a place.
+fn plain_text(alloc: Global, told: &Told) -> Result<String, AllocError>
+    ensures { IfOk result (λ text. string_bytes text
+        ≡ lanes.lanes_text told.now.threads [] []) }
+{
+    let text = lanes_text(alloc, told.threads.as_slice(), &[], &[])?;
     Ok(text)
 }

@@ -30,7 +30,8 @@ pub fn greater(one: u64, other: u64) -> u64
 /// How many of 960 pixels a part of a range has, which is no larger and less than 2^54.
 fn pixels(part: u64, range: u64) -> u64
     requires { part ≤ 18014398509481983 }
-    ensures { result ≡ spec.pixels part range }
+    ensures pixels { result ≡ spec.pixels part range }
+    ensures few { result ≤ 960 }
 {
     let range = greater(range, 1);
     lesser(part * 960 / range, 960)
@@ -38,7 +39,8 @@ fn pixels(part: u64, range: u64) -> u64
 
 /// The same of a part of any range.
 fn across(part: u64, range: u64) -> u64
-    ensures { result ≡ spec.across part range }
+    ensures pixels { result ≡ spec.across part range }
+    ensures few { result ≤ 960 }
 {
     let part = lesser(part, range);
     if range < 9_007_199_254_740_992 {
