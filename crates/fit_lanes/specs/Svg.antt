@@ -87,7 +87,7 @@ below_text (Misfit words) = codes "\n" ++ escaped words
 below_text Later = []
 
 -- the line of the call as it was read, and below it its place, or what stands in its way
-abbrev pub title_text : ℕ → Bar → List ℕ
+unfoldable pub title_text : ℕ → Bar → List ℕ
 title_text number bar =
     group_text (class_of bar.look) ++ thread_text number ++ span_text bar.span ++ escaped bar.text ++ below_text bar.look ++ codes "</title>\n"
 
@@ -97,8 +97,15 @@ corner_text x y = codes "<rect x='" ++ decimal x ++ codes "' y='" ++ decimal y +
 unfoldable pub size_text : ℕ → List ℕ
 size_text width = codes " width='" ++ decimal width ++ codes "' height='10' rx='3'/>\n"
 
-unfoldable pub turned_text : ℕ → ℕ → List ℕ
-turned_text x y = codes "<text transform='translate(" ++ decimal x ++ codes "," ++ decimal y ++ codes ") rotate(-38)'>"
+unfoldable pub right_text : ℕ → List ℕ
+right_text x = codes "<text transform='translate(" ++ decimal x ++ codes ","
+
+unfoldable pub down_text : ℕ → List ℕ
+down_text y = decimal y ++ codes ") rotate(-38)'>"
+
+-- words that rise to the right
+abbrev pub turned_text : ℕ → ℕ → List ℕ
+turned_text x y = right_text x ++ down_text y
 
 unfoldable pub at_text : ℕ → ℕ → List ℕ
 at_text x y = codes "<text class='place' x='" ++ decimal x ++ codes "' y='" ++ decimal y ++ codes "'>"
@@ -117,13 +124,15 @@ mark_text x number Later = []
 abbrev pub word_text : ℕ → ℕ → List ℕ → List ℕ
 word_text x number text = turned_text x (bar_y number) ++ escaped (first_word text) ++ codes "</text>\n"
 
-abbrev pub rect_text : Scale → ℕ → Span → List ℕ
+unfoldable pub rect_text : Scale → ℕ → Span → List ℕ
 rect_text s number span = corner_text (time_x s span.begin) (bar_y number) ++ size_text (bar_width s span)
 
-abbrev pub bar_text : Scale → ℕ → Bar → List ℕ
+unfoldable pub signs_text : ℕ → ℕ → Bar → List ℕ
+signs_text x number bar = word_text x number bar.text ++ mark_text x number bar.look
+
+unfoldable pub bar_text : Scale → ℕ → Bar → List ℕ
 bar_text s number bar =
-    title_text number bar ++ rect_text s number bar.span ++ word_text (time_x s bar.span.begin) number bar.text
-    ++ mark_text (time_x s bar.span.begin) number bar.look ++ codes "</g>\n"
+    title_text number bar ++ rect_text s number bar.span ++ signs_text (time_x s bar.span.begin) number bar ++ codes "</g>\n"
 
 -- ---- lanes
 

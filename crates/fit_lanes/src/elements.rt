@@ -159,11 +159,25 @@ pub fn push_size(out: &mut String, width: u64) -> Result<(), AllocError>
 }
 
 /// Begins a text that rises to the right.
-#[tactic(auto, unfolding(crate::specs::Svg::turned_text))]
 pub fn push_turned(out: &mut String, x: u64, y: u64) -> Result<(), AllocError>
     ensures { OnOk result (string_bytes out.new ≡ string_bytes out.old ++ spec.turned_text x y) }
 {
-    write!(out, "<text transform='translate({x},{y}) rotate(-38)'>")
+    push_right(out, x)?;
+    push_down(out, y)
+}
+
+#[tactic(auto, unfolding(crate::specs::Svg::right_text))]
+fn push_right(out: &mut String, x: u64) -> Result<(), AllocError>
+    ensures { OnOk result (string_bytes out.new ≡ string_bytes out.old ++ spec.right_text x) }
+{
+    write!(out, "<text transform='translate({x},")
+}
+
+#[tactic(auto, unfolding(crate::specs::Svg::down_text))]
+fn push_down(out: &mut String, y: u64) -> Result<(), AllocError>
+    ensures { OnOk result (string_bytes out.new ≡ string_bytes out.old ++ spec.down_text y) }
+{
+    write!(out, "{y}) rotate(-38)'>")
 }
 
 /// Begins the text of a place.

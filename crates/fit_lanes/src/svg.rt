@@ -102,19 +102,29 @@ fn push_bars(out: &mut String, scale: Scale, number: u32, bars: &[Bar]) -> Resul
     Ok(())
 }
 
+#[tactic(auto, unfolding(crate::specs::Svg::bar_text))]
 fn push_bar(out: &mut String, scale: Scale, number: u32, bar: &Bar) -> Result<(), AllocError>
     ensures { OnOk result (string_bytes out.new
         ≡ string_bytes out.old ++ spec.bar_text scale number bar.now) }
 {
-    let x = scale.time_x(bar.span.begin);
     push_title(out, number, bar)?;
     push_rect(out, scale, number, bar.span)?;
-    push_first_word(out, x, number, bar.text.as_str().as_bytes())?;
-    push_mark(out, x, number, &bar.look)?;
+    push_signs(out, scale.time_x(bar.span.begin), number, bar)?;
     out.push_str("</g>\n")
 }
 
+/// Adds a call's first word and its place.
+#[tactic(auto, unfolding(crate::specs::Svg::signs_text))]
+fn push_signs(out: &mut String, x: u64, number: u32, bar: &Bar) -> Result<(), AllocError>
+    ensures { OnOk result (string_bytes out.new
+        ≡ string_bytes out.old ++ spec.signs_text x number bar.now) }
+{
+    push_first_word(out, x, number, bar.text.as_str().as_bytes())?;
+    push_mark(out, x, number, &bar.look)
+}
+
 /// Begins a call's group, with its line as the title.
+#[tactic(auto, unfolding(crate::specs::Svg::title_text))]
 fn push_title(out: &mut String, number: u32, bar: &Bar) -> Result<(), AllocError>
     ensures { OnOk result (string_bytes out.new
         ≡ string_bytes out.old ++ spec.title_text number bar.now) }
@@ -152,6 +162,7 @@ fn push_below(out: &mut String, look: &Look) -> Result<(), AllocError>
     }
 }
 
+#[tactic(auto, unfolding(crate::specs::Svg::rect_text))]
 fn push_rect(out: &mut String, scale: Scale, number: u32, span: Span) -> Result<(), AllocError>
     ensures { OnOk result (string_bytes out.new
         ≡ string_bytes out.old ++ spec.rect_text scale number span) }
