@@ -1,5 +1,5 @@
 //! What is said of each thread's next call, where the longest order that was reached can't go on.
-ghost use Rattle.std.specs.Prelude.{◌≡◌, ◌<◌, ℕ, IfOk, IfSome, Some, slice_get};
+ghost use Rattle.std.specs.Prelude.{◌≡◌, ◌<◌, ◌+◌, ◌^◌, ℕ, IfOk, IfSome, Some, slice_get};
 ghost use Rattle.std.specs.String.{string_bytes};
 ghost use Rattle.its_fit.specs.Replays as replays;
 ghost use Rattle.fit_lanes.specs.Nexts as spec;
@@ -58,8 +58,9 @@ fn next_text(
 
 /// A thread whose next call had returned before a time.
 fn waits_for(ends: &[Option<u64>], begin: u64) -> Option<usize>
-    ensures { IfSome result (λ other. (end : ℕ) × ((slice_get ends.now other ≡ Some (Some end))
-        × (end < begin))) }
+    ensures earlier { IfSome result (λ other. (end : ℕ)
+        × ((slice_get ends.now other ≡ Some (Some end)) × (end < begin))) }
+    ensures small { IfSome result (λ other. other + 1 < 2 ^ 64) }
 {
     for (other, end) in ends.iter().enumerate() {
         if let Some(end) = *end {
@@ -74,6 +75,7 @@ fn waits_for(ends: &[Option<u64>], begin: u64) -> Option<usize>
 /// That a call waits for a thread's.
 #[tactic(auto, unfolding(crate::specs::Nexts::waits_text))]
 fn waits_text(alloc: Global, other: usize) -> Result<Text, AllocError>
+    requires { other + 1 < 2 ^ 64 }
     ensures { IfOk result (λ words. words ≡ spec.waits_text other) }
 {
     let number = other as u64 + 1;
