@@ -1,5 +1,5 @@
 -- What is shown is what `fit` says, and is said of the bytes.
-use Rattle.std.proofs.Common.{◌≡◌, ◌≢◌, ℕ, List, [], ◌∷◌, ◌++◌, length, Option, Result, Ok, Err, refl, subst, inl, inr, codes}
+use Rattle.std.proofs.Common.{◌≡◌, ◌≢◌, ℕ, List, [], ◌∷◌, ◌++◌, length, Option, Ok, Err, refl, subst, inl, inr, codes}
 use Rattle.std.specs.Prelude.{replicate}
 use Rattle.its_plain.specs.Described.{IsMadeFrom}
 use Rattle.its_plain.specs.Plain.{Plain}
@@ -25,7 +25,7 @@ use Rattle.fit_answers.specs.FitSays.{FitCauses, FitSays, IsAnswered, IsBadTold,
 use Rattle.fit_answers.specs.Reached.{reached_lines}
 use Rattle.fit_answers.specs.ToldText.{IsToldAs, told_of}
 use Rattle.fit_answers.proofs.Saying.{answered, failed_as, fit_causes, no_script, refused_as}
-use Rattle.fit_lanes.specs.LanesSays.{IsNoFitInput, LanesCauses, LanesSays, OfShown, ToldShows}
+use Rattle.fit_lanes.specs.LanesSays.{IsNoFitInput, LanesCauses, LanesSays, ToldShows}
 
 -- ---- what `fit` says
 
@@ -34,13 +34,16 @@ abbrev pub SaidBy : List ℕ → ℕ → Status → Type 0
 SaidBy input bound s = (line : List ℕ) × FitSays input bound s line
 
 pub as_fit : (input : List ℕ) (bound : ℕ) (s : Status) (text : List ℕ) → LanesSays input bound s text → SaidBy input bound s
-as_fit input bound status.Ok text h = (codes "fits\n" ++ report_text h.shows.legs, record {
-  script = h.script;
-  calls = h.calls;
-  told = h.told;
-  is_input = h.is_input;
-  says = (h.shows.legs, (h.shows.fits, refl));
-})
+as_fit input bound status.Ok text h = (
+  codes "fits\n" ++ report_text h.shows.legs,
+  record {
+    script = h.script;
+    calls = h.calls;
+    told = h.told;
+    is_input = h.is_input;
+    says = (h.shows.legs, (h.shows.fits, refl));
+  },
+)
 as_fit input bound status.ScriptRefused text h = (text, h)
 as_fit input bound status.WordsRefused text h = (text, h)
 as_fit input bound status.ReadFault text h = (text, h)
@@ -51,22 +54,27 @@ as_fit input bound status.MigrationRefused text h = (text, h)
 as_fit input bound status.Spent text h = (text, h)
 as_fit input bound status.TooLong text h = (text, h)
 as_fit input bound status.TraceDiffers text h =
-    let threads = h.told.threads in
-    (codes "fits nowhere\n" ++ (reached_lines threads (replicate (length threads) 0) 0 h.shows.order ++ []), record {
-      script = h.script;
-      calls = h.calls;
-      told = h.told;
-      is_input = h.is_input;
-      says = record { none = h.shows.none; order = h.shows.order; goes = h.shows.goes; more = []; text_is = refl };
-    })
+    let threads = h.told.threads in (
+      codes "fits nowhere\n" ++ (reached_lines threads (replicate (length threads) 0) 0 h.shows.order ++ []),
+      record {
+        script = h.script;
+        calls = h.calls;
+        told = h.told;
+        is_input = h.is_input;
+        says = record { none = h.shows.none; order = h.shows.order; goes = h.shows.goes; more = []; text_is = refl };
+      },
+    )
 as_fit input bound status.BadTrace text h = (text, h)
-as_fit input bound status.Undecided text h = (h.shows.line, record {
-  script = h.script;
-  calls = h.calls;
-  told = h.told;
-  is_input = h.is_input;
-  says = h.shows.said;
-})
+as_fit input bound status.Undecided text h = (
+  h.shows.line,
+  record {
+    script = h.script;
+    calls = h.calls;
+    told = h.told;
+    is_input = h.is_input;
+    says = h.shows.said;
+  },
+)
 
 -- what is well formed is answered
 pub lanes_answered : (input : List ℕ) (bound : ℕ) (s : Status) (text : List ℕ) → LanesSays input bound s text → IsAnswered input s

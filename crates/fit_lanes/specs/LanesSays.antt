@@ -1,5 +1,5 @@
 -- What `lanes` says of a script, a line `trace`, and what its threads were told.
-use Rattle.std.specs.Prelude.{◌≡◌, ℕ, ◌<◌, List, [], length, codes, Option, IfSome}
+use Rattle.std.specs.Prelude.{◌≡◌, ℕ, List, [], Option}
 use Rattle.its_plain.specs.Runs.{Phase}
 use Rattle.its_plain.specs.declared.desc.Desc.{Desc}
 use Rattle.event_script.specs.declared.script.Script.{Script}

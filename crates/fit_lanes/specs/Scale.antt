@@ -1,5 +1,5 @@
 -- Where things stand in a picture, in pixels from the left and from the top.
-use Rattle.std.specs.Prelude.{ℕ, ◌+◌, ◌-◌, ◌*◌, ◌/◌, ◌^◌, max, min, nat_lt, if◌then◌else◌}
+use Rattle.std.specs.Prelude.{ℕ, ◌+◌, ◌-◌, ◌*◌, ◌/◌, max, min, nat_lt, if◌then◌else◌}
 use Rattle.front_search.specs.declared.span.Span.{Span}
 use Rattle.fit_lanes.specs.declared.scale.Scale.{Scale}
 

@@ -63,12 +63,7 @@ pub fn push_name(out: &mut String) -> Result<(), AllocError>
 pub fn push_height(out: &mut String, height: u64) -> Result<(), AllocError>
     ensures { OnOk result (string_bytes out.new ≡ string_bytes out.old ++ spec.height_text height) }
 {
-    writeln!(
-        out,
-        " height='{}' viewBox='0 0 1240 {}'>",
-        height,
-        height
-    )
+    writeln!(out, " height='{}' viewBox='0 0 1240 {}'>", height, height)
 }
 
 /// Adds the first time.
@@ -95,8 +90,7 @@ pub fn push_line(out: &mut String, y: u64) -> Result<(), AllocError>
     writeln!(
         out,
         "<line class='lane' x1='112' y1='{}' x2='1240' y2='{}'/>",
-        y,
-        y
+        y, y
     )
 }
 

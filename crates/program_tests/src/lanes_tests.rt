@@ -34,7 +34,8 @@ vcpu 3 pending none
 ";
 
 /// Two calls of which the one that began later and returned earlier stands first.
-const FIT: &str = "<svg xmlns='http://www.w3.org/2000/svg' width='1240' height='124' viewBox='0 0 1240 124'>
+const FIT: &str =
+    "<svg xmlns='http://www.w3.org/2000/svg' width='1240' height='124' viewBox='0 0 1240 124'>
 <text class='dim' x='124' y='20'>5</text>
 <text class='dim last' x='1084' y='20'>9</text>
 <line class='lane' x1='112' y1='68' x2='1240' y2='68'/>
@@ -58,7 +59,8 @@ place 0</title>
 
 /// The write goes, and the first read isn't answered so, whatever its reply holds. It was made at
 /// one moment, the first of all.
-const MISFIT: &str = "<svg xmlns='http://www.w3.org/2000/svg' width='1240' height='124' viewBox='0 0 1240 124'>
+const MISFIT: &str =
+    "<svg xmlns='http://www.w3.org/2000/svg' width='1240' height='124' viewBox='0 0 1240 124'>
 <text class='dim' x='124' y='20'>0</text>
 <text class='dim last' x='1084' y='20'>18446744073709551615</text>
 <line class='lane' x1='112' y1='68' x2='1240' y2='68'/>
@@ -84,7 +86,8 @@ place 0</title>
 ";
 
 /// Neither goes: the write began once the read had returned.
-const WAITS: &str = "<svg xmlns='http://www.w3.org/2000/svg' width='1240' height='124' viewBox='0 0 1240 124'>
+const WAITS: &str =
+    "<svg xmlns='http://www.w3.org/2000/svg' width='1240' height='124' viewBox='0 0 1240 124'>
 <text class='dim' x='124' y='20'>1</text>
 <text class='dim last' x='1084' y='20'>9</text>
 <line class='lane' x1='112' y1='68' x2='1240' y2='68'/>
@@ -105,7 +108,8 @@ waits 1.1</title>
 ";
 
 /// Nothing is known of either.
-const PLAIN: &str = "<svg xmlns='http://www.w3.org/2000/svg' width='1240' height='124' viewBox='0 0 1240 124'>
+const PLAIN: &str =
+    "<svg xmlns='http://www.w3.org/2000/svg' width='1240' height='124' viewBox='0 0 1240 124'>
 <text class='dim' x='124' y='20'>5</text>
 <text class='dim last' x='1084' y='20'>9</text>
 <line class='lane' x1='112' y1='68' x2='1240' y2='68'/>

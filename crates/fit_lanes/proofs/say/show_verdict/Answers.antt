@@ -1,5 +1,4 @@
 use Rattle.std.proofs.Common.{ℕ, List, refl, sym, subst, inl, inr}
-use Rattle.its_fit.specs.Replays.{IsOrder}
 use Rattle.its_fit.specs.Verdicts.{IsStart}
 use Rattle.fit_lanes.proofs.say.show_verdict.Goals as goal
 
